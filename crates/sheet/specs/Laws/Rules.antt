@@ -1,0 +1,97 @@
+-- Two outcomes that conform are alike; stages one after another; first places are unique.
+-- Assumes nothing.
+use mathlib.Core.Path.{_≡_, refl, sym, ap, _∙_, subst}
+use mathlib.Core.Logic.{_⊎_, inl, inr}
+use mathlib.Core.List.{List, [], _∷_, _++_, map}
+use Prim.Native.Nat.{ℕ, _<_, _≤_}
+use native.Mathlib.Omega.{arith}
+use native.Mathlib.Decide.{decLt}
+use Rattle.sheet.specs.Rules.{Rule, First, None, Tight, Exact, kept, stage, FirstOf, firstPlace, Staged, refusal}
+use Rattle.sheet.specs.declared.answer.Answer.{Answer}
+use Rattle.sheet.specs.declared.answer.Stage.{Stage}
+use Rattle.sheet.specs.declared.answer.Stage.the-variants.{Pass, Refuse}
+
+module _ {A : Type 0} (Like : A → A → Type 0) where
+  -- agreement: with `Like` as equality the outcomes are one, else they are as alike as the rules hold them
+  pub agree : (rs : List (Rule A)) → Tight Like rs → (o p : A) → First rs o → First rs p → Like o p
+  agree [] t o p f g = absurd f
+  agree (r ∷ rs) t o p (inl f) (inl g) = t .0 o p (f .1) (g .1)
+  agree (r ∷ rs) t o p (inl f) (inr g) = absurd (g .0 (f .0))
+  agree (r ∷ rs) t o p (inr f) (inl g) = absurd (f .0 (g .0))
+  agree (r ∷ rs) t o p (inr f) (inr g) = agree rs (t .1) o p (f .1) (g .1)
+
+  pub tight-both : (rs ts : List (Rule A)) → Tight Like rs → Tight Like ts → Tight Like (rs ++ ts)
+  tight-both [] ts t u = u
+  tight-both (r ∷ rs) ts t u = (t .0, tight-both rs ts (t .1) u)
+
+  -- exact rules are as tight as any likeness that each outcome has with itself
+  pub exact-tight : ((o : A) → Like o o) → (rs : List (Rule A)) → Exact rs → Tight Like rs
+  exact-tight same [] e = tt
+  exact-tight same (r ∷ rs) e = (λ o p f g. subst (Like o) (e .0 o p f g) (same o), exact-tight same rs (e .1))
+
+module _ {A : Type 0} where
+  -- ---- one stage after another
+  pub first-left : (rs ts : List (Rule A)) (o : A) → First rs o → First (rs ++ ts) o
+  first-left [] ts o f = absurd f
+  first-left (r ∷ rs) ts o (inl f) = inl f
+  first-left (r ∷ rs) ts o (inr f) = inr (f .0, first-left rs ts o (f .1))
+
+  pub first-right : (rs ts : List (Rule A)) (o : A) → None rs → First ts o → First (rs ++ ts) o
+  first-right [] ts o n f = f
+  first-right (r ∷ rs) ts o n f = inr (n .0, first-right rs ts o (n .1) f)
+
+  pub none-both : (rs ts : List (Rule A)) → None rs → None ts → None (rs ++ ts)
+  none-both [] ts n k = k
+  none-both (r ∷ rs) ts n k = (n .0, none-both rs ts (n .1) k)
+
+  -- ---- a stage of answers as a stage of a question
+  module _ (keep : Answer → A) where
+    pub stage-exact : (rs : List (Rule Answer)) → Exact rs → Exact (stage keep rs)
+    stage-exact [] e = tt
+    stage-exact (r ∷ rs) e = (λ o p f g. f .2 ∙ ap keep (e .0 (f .0) (g .0) (f .1) (g .1)) ∙ sym (g .2), stage-exact rs (e .1))
+
+    stage-first : (rs : List (Rule Answer)) (a : Answer) → First rs a → First (stage keep rs) (keep a)
+    stage-first [] a f = absurd f
+    stage-first (r ∷ rs) a (inl f) = inl (f .0, (a, f .1, refl))
+    stage-first (r ∷ rs) a (inr f) = inr (f .0, stage-first rs a (f .1))
+
+    stage-none : (rs : List (Rule Answer)) → None rs → None (stage keep rs)
+    stage-none [] n = tt
+    stage-none (r ∷ rs) n = (n .0, stage-none rs (n .1))
+
+    -- a question ends at a stage that refuses, and goes on after one that passes
+    pub ends : (rs : List (Rule Answer)) (ts : List (Rule A)) (a : Answer) → First rs a → First (stage keep rs ++ ts) (keep a)
+    ends rs ts a f = first-left (stage keep rs) ts (keep a) (stage-first rs a f)
+
+    pub goes-on : (rs : List (Rule Answer)) (ts : List (Rule A)) (o : A) → None rs → First ts o → First (stage keep rs ++ ts) o
+    goes-on rs ts o n f = first-right (stage keep rs) ts o (stage-none rs n) f
+
+-- what a stage's result says once its case is known
+pub refused : (rs : List (Rule Answer)) (r : Stage) (a : Answer) → Staged rs r → r ≡ Refuse a → First rs a
+refused rs r a h e = subst (Staged rs) e h
+
+pub passed : (rs : List (Rule Answer)) (r : Stage) → Staged rs r → r ≡ Pass → None rs
+passed rs r h e = subst (Staged rs) e h
+
+-- ---- first places
+module _ (P : ℕ → Type 0) (m : ℕ) where
+  pub first-unique : (r q : ℕ) → FirstOf P m r → FirstOf P m q → r ≡ q
+  first-unique r q f g =
+      elim (decLt r q) [
+        | yes h ↦ absurd (g .before r h (f .found (omega (arith, g .within))))
+        | no h ↦ elim (decLt q r) [ yes k ↦ absurd (f .before q k (g .found (omega (arith, f .within)))) | no k ↦ omega arith ]
+      ]
+
+  module _ (says : ℕ → Answer) where
+    pub place-exact : (a b : Answer) → firstPlace P m says .gives a → firstPlace P m says .gives b → a ≡ b
+    place-exact a b f g = f .3 ∙ ap says (first-unique (f .0) (g .0) (f .1) (g .1)) ∙ sym (g .3)
+
+    -- a search that ended at r below m, and one that ended at m
+    pub place-found : (r : ℕ) → FirstOf P m r → r < m → firstPlace P m says .when × firstPlace P m says .gives (says r)
+    place-found r f h = ((r, h, f .found h), (r, f, h, refl))
+
+    pub place-none : (r : ℕ) → FirstOf P m r → m ≤ r → firstPlace P m says .when → ⊥
+    place-none r f h w = f .before (w .0) (omega (arith, w .1)) (w .2)
+
+pub refusal-exact : (w : Type 0) (c a b : Answer) → refusal w c .gives a → refusal w c .gives b → a ≡ b
+refusal-exact w c a b f g = f ∙ sym g

@@ -1,0 +1,7 @@
+pub mod Bytes
+pub mod Lag
+pub mod Core
+pub mod Rules
+pub mod Sheet
+pub mod Reads
+pub mod Laws

@@ -1,0 +1,1 @@
+// The first bad block and wire of a sheet.
