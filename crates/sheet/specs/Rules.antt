@@ -2,6 +2,7 @@
 -- One definition for every question: an outcome is the answer together with every lent list after it.
 use mathlib.Core.Path.{_≡_}
 use mathlib.Core.Logic.{_⊎_}
+use mathlib.Core.Bool.{Bool, true, false}
 use mathlib.Core.List.{List, [], _∷_, map}
 use Prim.Native.Nat.{ℕ, _<_, _≤_}
 use Rattle.sheet.specs.declared.answer.Answer.{Answer}
@@ -63,3 +64,8 @@ firstPlace P m says = record {
 abbrev pub Staged : List (Rule Answer) → Stage → Type 0
 Staged rs Pass = None rs
 Staged rs (Refuse a) = First rs a
+
+-- what a test says of a fact
+abbrev pub Told : Type 0 → Bool → Type 0
+Told P true = P
+Told P false = P → ⊥

@@ -53,17 +53,19 @@ wireAnswer (W.Wire from to registers) = answer 0 0 0
 wireAnswer (W.Refused wire) = answer 6 wire 0
 
 -- ---- the refusals, stage by stage
+-- 01: "The block table starts at 16, the wire table at 16 + 8n, the total is 16 + 8n + 8m, and the lent slice has that length"
+pub record Offsets (s : List ℕ) : Type 0 where
+  pub blocks-at : u32At s 4 ≡ 16
+  pub wires-at : u32At s 8 ≡ 16 + 8 * blocksIn s
+  pub total : u32At s 12 ≡ 16 + 8 * blocksIn s + 8 * wiresIn s
+  pub whole : length s ≡ 16 + 8 * blocksIn s + 8 * wiresIn s
+
 -- 1: "fewer than 16 bytes"; 2: "n outside 1 to 64, or m above 256"; 3: "an offset, the total or the slice length is wrong"
 abbrev pub frameRules : List ℕ → List (Rule Answer)
 frameRules s =
     refusal (length s < 16) (answer 1 0 0)
     ∷ refusal ((blocksIn s < 1) ⊎ ((64 < blocksIn s) ⊎ (256 < wiresIn s))) (answer 2 0 0)
-    ∷ refusal
-      ((u32At s 4 ≡ 16 → ⊥)
-      ⊎ ((u32At s 8 ≡ 16 + 8 * blocksIn s → ⊥)
-      ⊎ ((u32At s 12 ≡ 16 + 8 * blocksIn s + 8 * wiresIn s → ⊥)
-      ⊎ (length s ≡ u32At s 12 → ⊥))))
-      (answer 3 0 0)
+    ∷ refusal (Offsets s → ⊥) (answer 3 0 0)
     ∷ []
 
 -- 5: "a block entry breaks its rule", place "first such block"
@@ -80,10 +82,7 @@ pub record Framed (s : List ℕ) : Type 0 where
   pub some-block : 1 ≤ blocksIn s
   pub few-blocks : blocksIn s ≤ 64
   pub few-wires : wiresIn s ≤ 256
-  pub blocks-at : u32At s 4 ≡ 16
-  pub wires-at : u32At s 8 ≡ 16 + 8 * blocksIn s
-  pub total : u32At s 12 ≡ 16 + 8 * blocksIn s + 8 * wiresIn s
-  pub whole : length s ≡ 16 + 8 * blocksIn s + 8 * wiresIn s
+  pub offsets : Offsets s
 
 -- 1, 2, 3, 5 and 6
 pub record FormedSheet (s : List ℕ) : Type 0 where

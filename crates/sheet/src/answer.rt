@@ -1,4 +1,7 @@
 // What a question answers, and a stage of one.
+ghost use mathlib.Core.Path.{_≡_};
+ghost use Prim.Native.Nat.{_<_};
+ghost use Rattle.sheet.specs.Rules.{answer};
 
 // 01: "Each answer has a number, a place and, where the question has one, a value."
 pub struct Answer {
@@ -11,4 +14,16 @@ pub struct Answer {
 pub enum Stage {
     Pass,
     Refuse(Answer),
+}
+
+// 01: "A refusal's value is 0, except the word count with 10 and 11."
+pub fn refusal(number: u32, place: usize) -> Answer
+    requires { ⌜ place < 4294967296 ⌝ }
+    ensures { λ r. ⌜ r ≡ answer number place 0 ⌝ }
+{
+    Answer {
+        number,
+        place: place as u32,
+        value: 0,
+    }
 }

@@ -3,10 +3,11 @@
 use mathlib.Core.Path.{_≡_, refl, sym, ap, _∙_, subst}
 use mathlib.Core.Logic.{_⊎_, inl, inr}
 use mathlib.Core.List.{List, [], _∷_, _++_, map}
+use mathlib.Core.Bool.{Bool, true, false}
 use Prim.Native.Nat.{ℕ, _<_, _≤_}
 use native.Mathlib.Omega.{arith}
 use native.Mathlib.Decide.{decLt}
-use Rattle.sheet.specs.Rules.{Rule, First, None, Tight, Exact, kept, stage, FirstOf, firstPlace, Staged, refusal}
+use Rattle.sheet.specs.Rules.{Rule, First, None, Tight, Exact, kept, stage, FirstOf, firstPlace, Staged, refusal, Told}
 use Rattle.sheet.specs.declared.answer.Answer.{Answer}
 use Rattle.sheet.specs.declared.answer.Stage.{Stage}
 use Rattle.sheet.specs.declared.answer.Stage.the-variants.{Pass, Refuse}
@@ -82,6 +83,13 @@ module _ (P : ℕ → Type 0) (m : ℕ) where
         | no h ↦ elim (decLt q r) [ yes k ↦ absurd (f .before q k (g .found (omega (arith, f .within)))) | no k ↦ omega arith ]
       ]
 
+  -- a search in order: it stops at the first such index, or it has passed all
+  pub search-stops : (r : ℕ) → r < m → ((k : ℕ) → k < r → P k → ⊥) → P r → FirstOf P m r
+  search-stops r h before found = record { within = omega arith; before = before; found = λ _. found }
+
+  pub search-ends : (r : ℕ) → m ≤ r → ((k : ℕ) → k < r → P k → ⊥) → FirstOf P m m
+  search-ends r h before = record { within = omega arith; before = λ k g. before k (omega arith); found = λ g. absurd (omega arith) }
+
   module _ (says : ℕ → Answer) where
     pub place-exact : (a b : Answer) → firstPlace P m says .gives a → firstPlace P m says .gives b → a ≡ b
     place-exact a b f g = f .3 ∙ ap says (first-unique (f .0) (g .0) (f .1) (g .1)) ∙ sym (g .3)
@@ -95,3 +103,10 @@ module _ (P : ℕ → Type 0) (m : ℕ) where
 
 pub refusal-exact : (w : Type 0) (c a b : Answer) → refusal w c .gives a → refusal w c .gives b → a ≡ b
 refusal-exact w c a b f g = f ∙ sym g
+
+-- what a test says once it is known
+pub told-true : (P : Type 0) (b : Bool) → Told P b → b ≡ true → P
+told-true P b h e = subst (Told P) e h
+
+pub told-false : (P : Type 0) (b : Bool) → Told P b → b ≡ false → P → ⊥
+told-false P b h e = subst (Told P) e h

@@ -1,6 +1,6 @@
 -- A sheet's rules on integers and on excess numbers are the same; what the rules leave is a formed sheet.
 -- Assumes nothing.
-use mathlib.Core.Path.{_≡_, refl, sym, ap, _∙_}
+use mathlib.Core.Path.{_≡_, refl, sym, ap, _∙_, subst}
 use mathlib.Core.Logic.{_⊎_, inl, inr}
 use mathlib.Core.List.{List, [], _∷_}
 use Prim.Native.Nat.{ℕ, _+_, _*_, _-_, _%_, _<_, _≤_}
@@ -14,12 +14,13 @@ use mir.Val.{toZ}
 use Rattle.sheet.specs.Lag.{excess}
 use Rattle.sheet.specs.Bytes.{Bytes, u16At}
 use Rattle.sheet.specs.Core.{coreOf, wireAt, blocksIn, wiresIn, delayIn, lowerIn, upperIn, fromIn, toIn, registersIn, spareIn}
-use Rattle.sheet.specs.Rules.{None, FirstOf, firstPlace}
-use Rattle.sheet.specs.Sheet.{LagLimits, BlockRule, WireRule, BlockGood, WireGood, frameRules, entryRules, Framed, FormedSheet, Formed}
+use Rattle.sheet.specs.Rules.{First, None, FirstOf, firstPlace, answer}
+use Rattle.sheet.specs.Sheet.{LagLimits, BlockRule, WireRule, BlockGood, WireGood, frameRules, entryRules, Offsets, Framed, FormedSheet, Formed}
 use Rattle.sheet.specs.Reads.{ExcessIs, BlockNumbers, BlockOf, BlockGiven, BlockIs, WireIs, WireOf, WireGiven}
 use Rattle.sheet.specs.Laws.Integer.{up, down, le-parts, parts-le, parts-eq, minus}
 use Rattle.sheet.specs.Laws.Lag.{excess-parts, mag-bits, excess-bits}
 use Rattle.sheet.specs.Laws.Bytes.{u16-below}
+use Rattle.sheet.specs.Laws.Rules.{place-found, place-none}
 use Rattle.sheet.specs.declared.block.BlockRead.{BlockRead}
 use Rattle.sheet.specs.declared.block.BlockRead.the-variants as B
 use Rattle.sheet.specs.declared.wire.WireRead.{WireRead}
@@ -96,3 +97,58 @@ wire-tied s j f t w z (W.Refused k) h ef et ew ez = (h .0, λ g. h .1 (rw (ef, e
 pub wire-given : (s : List ℕ) (n j f t w z : ℕ) (r : WireRead) → n ≡ blocksIn s → WireOf n j f t w z r
     → f ≡ u16At s (wireAt n j) → t ≡ u16At s (wireAt n j + 2) → w ≡ u16At s (wireAt n j + 4) → z ≡ u16At s (wireAt n j + 6) → WireGiven s j r
 wire-given s n j f t w z r en h ef et ew ez = wire-tied s j f t w z r (rw en at h) (rw en at ef) (rw en at et) (rw en at ew) (rw en at ez)
+
+-- ---- what a reader's answer says once its case is known
+module _ (s : List ℕ) (i : ℕ) where
+  pub block-read : (r : BlockRead) (d l u : ℕ) → BlockGiven s i r → r ≡ B.Block d l u → BlockIs s i d l u × BlockGood s i
+  block-read r d l u h e = subst (BlockGiven s i) e h
+
+  pub block-refused : (r : BlockRead) (k : ℕ) → BlockGiven s i r → r ≡ B.Refused k → BlockGood s i → ⊥
+  block-refused r k h e = subst (BlockGiven s i) e h .1
+
+  pub wire-read : (r : WireRead) (f t w : ℕ) → WireGiven s i r → r ≡ W.Wire f t w → WireIs s i f t w × WireGood s i
+  wire-read r f t w h e = subst (WireGiven s i) e h
+
+  pub wire-refused : (r : WireRead) (k : ℕ) → WireGiven s i r → r ≡ W.Refused k → WireGood s i → ⊥
+  wire-refused r k h e = subst (WireGiven s i) e h .1
+
+-- ---- the frame's refusals, one by one
+module _ (s : List ℕ) where
+  pub too-short : length s < 16 → First (frameRules s) (answer 1 0 0)
+  too-short h = inl (h, refl)
+
+  pub counts-wrong : 16 ≤ length s → (blocksIn s < 1) ⊎ ((64 < blocksIn s) ⊎ (256 < wiresIn s)) → First (frameRules s) (answer 2 0 0)
+  counts-wrong l h = inr (λ g. omega arith, inl (h, refl))
+
+  counts-right : 1 ≤ blocksIn s → blocksIn s ≤ 64 → wiresIn s ≤ 256 → (blocksIn s < 1) ⊎ ((64 < blocksIn s) ⊎ (256 < wiresIn s)) → ⊥
+  counts-right h k g (inl x) = omega arith
+  counts-right h k g (inr (inl x)) = omega arith
+  counts-right h k g (inr (inr x)) = omega arith
+
+  pub offsets-wrong : 16 ≤ length s → 1 ≤ blocksIn s → blocksIn s ≤ 64 → wiresIn s ≤ 256 → (Offsets s → ⊥) → First (frameRules s) (answer 3 0 0)
+  offsets-wrong l h k g o = inr (λ z. omega arith, inr (counts-right h k g, inl (o, refl)))
+
+  pub framed-none : Framed s → None (frameRules s)
+  framed-none f =
+      (λ z. omega (arith, f .offsets .whole, f .some-block), (counts-right (f .some-block) (f .few-blocks) (f .few-wires), (λ o. o (f .offsets), tt)))
+
+-- ---- the entries' refusals, one by one, from where the searches ended
+module _ (s : List ℕ) (n b : ℕ) (e : n ≡ blocksIn s) (f : FirstOf (λ k. BlockGood s k → ⊥) n b) where
+  blocks-searched : FirstOf (λ k. BlockGood s k → ⊥) (blocksIn s) b
+  blocks-searched = rw e at f
+
+  pub block-bad : b < n → First (entryRules s) (answer 5 b 0)
+  block-bad h = inl (place-found (λ k. BlockGood s k → ⊥) (blocksIn s) (λ k. answer 5 k 0) b blocks-searched (omega arith))
+
+  pub blocks-good : n ≤ b → (k : ℕ) × (k < blocksIn s) × (BlockGood s k → ⊥) → ⊥
+  blocks-good h = place-none (λ k. BlockGood s k → ⊥) (blocksIn s) (λ k. answer 5 k 0) b blocks-searched (omega arith)
+
+  module _ (m j : ℕ) (g : m ≡ wiresIn s) (w : FirstOf (λ k. WireGood s k → ⊥) m j) (h : n ≤ b) where
+    wires-searched : FirstOf (λ k. WireGood s k → ⊥) (wiresIn s) j
+    wires-searched = rw g at w
+
+    pub wire-bad : j < m → First (entryRules s) (answer 6 j 0)
+    wire-bad k = inr (blocks-good h, inl (place-found (λ i. WireGood s i → ⊥) (wiresIn s) (λ i. answer 6 i 0) j wires-searched (omega arith)))
+
+    pub entries-good : m ≤ j → None (entryRules s)
+    entries-good k = (blocks-good h, (place-none (λ i. WireGood s i → ⊥) (wiresIn s) (λ i. answer 6 i 0) j wires-searched (omega arith), tt))
