@@ -4,3 +4,5 @@ pub mod Lag
 pub mod Bytes
 pub mod Rules
 pub mod Sheet
+pub mod Formed
+pub mod Filled

@@ -4,4 +4,5 @@ pub mod Core
 pub mod Rules
 pub mod Sheet
 pub mod Reads
+pub mod Filled
 pub mod Laws

@@ -6,3 +6,4 @@ pub mod frame; // the header: refusals 1, 2 and 3
 pub mod block; // one block entry
 pub mod wire; // one wire entry
 pub mod entries; // the first bad block and wire: refusals 5 and 6
+pub mod load; // a formed sheet's numbers, held in lists

@@ -7,7 +7,7 @@ use mathlib.Core.Bool.{Bool, true, false}
 use Prim.Native.Nat.{ℕ, _<_, _≤_}
 use native.Mathlib.Omega.{arith}
 use native.Mathlib.Decide.{decLt}
-use Rattle.sheet.specs.Rules.{Rule, First, None, Tight, Exact, kept, stage, FirstOf, firstPlace, Staged, refusal, Told}
+use Rattle.sheet.specs.Rules.{Rule, First, None, Tight, Exact, kept, stage, FirstOf, firstPlace, Staged, Told}
 use Rattle.sheet.specs.declared.answer.Answer.{Answer}
 use Rattle.sheet.specs.declared.answer.Stage.{Stage}
 use Rattle.sheet.specs.declared.answer.Stage.the-variants.{Pass, Refuse}
@@ -101,8 +101,8 @@ module _ (P : ℕ → Type 0) (m : ℕ) where
     pub place-none : (r : ℕ) → FirstOf P m r → m ≤ r → firstPlace P m says .when → ⊥
     place-none r f h w = f .before (w .0) (omega (arith, w .1)) (w .2)
 
-pub refusal-exact : (w : Type 0) (c a b : Answer) → refusal w c .gives a → refusal w c .gives b → a ≡ b
-refusal-exact w c a b f g = f ∙ sym g
+pub refusal-exact : (c a b : Answer) → a ≡ c → b ≡ c → a ≡ b
+refusal-exact c a b f g = f ∙ sym g
 
 -- what a test says once it is known
 pub told-true : (P : Type 0) (b : Bool) → Told P b → b ≡ true → P
