@@ -59,10 +59,5 @@ pub fn read_block(s: &[u8], b: usize) -> BlockRead
     ensures { λ r. ⌜ BlockGiven (now (s .entry)) b r ⌝ }
 {
     let at = 16 + 8 * b;
-    block_of(
-        b,
-        u32_at(s, at),
-        excess_at(s, at + 4),
-        excess_at(s, at + 6),
-    )
+    block_of(b, u32_at(s, at), excess_at(s, at + 4), excess_at(s, at + 6))
 }

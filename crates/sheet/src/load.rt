@@ -24,7 +24,14 @@ pub fn load_delays(s: &[u8], n: usize, delays: &mut [u32; 64])
     }
 }
 
-pub fn load_wires(s: &[u8], n: usize, m: usize, from: &mut [usize; 256], to: &mut [usize; 256], registers: &mut [u32; 256])
+pub fn load_wires(
+    s: &[u8],
+    n: usize,
+    m: usize,
+    from: &mut [usize; 256],
+    to: &mut [usize; 256],
+    registers: &mut [u32; 256],
+)
     requires { ⌜ FormedSheet (now s) × (n ≡ blocksIn (now s)) × (m ≡ wiresIn (now s)) × (length (now from) ≡ 256) × (length (now to) ≡ 256) × (length (now registers) ≡ 256) ⌝ }
     ensures { λ _. ⌜ (now (from .exit) ≡ filled (fromIn (now (s .entry))) m (now (from .entry))) × (now (to .exit) ≡ filled (toIn (now (s .entry))) m (now (to .entry))) × (now (registers .exit) ≡ filled (registersIn (now (s .entry))) m (now (registers .entry))) ⌝ }
 {

@@ -75,8 +75,7 @@ pub block-given : (s : List ℕ) (b d lo up : ℕ) (r : BlockRead) → BlockOf b
 block-given s b d lo up (B.Block delay lower upper) h p q r =
     let e : delay ≡ delayIn s b = h .0 ∙ p in
     let f : lower ≡ excess (lowerIn s b) = h .1 ∙ q .is in
-    let g : upper ≡ excess (upperIn s b) = h .2 ∙ r .is in
-    (
+    let g : upper ≡ excess (upperIn s b) = h .2 ∙ r .is in (
       record { delay-is = e; lower-is = f; upper-is = g; numbers = h .3 },
       numbers-block b (delayIn s b) (lowerIn s b) (upperIn s b) (q .fits) (r .fits) (rw (e, f, g) at (h .3)),
     )
@@ -87,8 +86,7 @@ wire-tied s j f t w z (W.Wire from to registers) h ef et ew ez =
     let pf : from ≡ fromIn s j = h .0 ∙ ef in
     let pt : to ≡ toIn s j = h .1 ∙ et in
     let pw : registers ≡ registersIn s j = h .2 ∙ ew in
-    let g = h .3 in
-    (
+    let g = h .3 in (
       record { from-is = pf; to-is = pt; registers-is = pw; from-block = g .from-block; to-block = g .to-block; few = g .few },
       rw (pf, pt, pw, ez) at g,
     )
