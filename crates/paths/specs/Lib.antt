@@ -1,0 +1,4 @@
+pub mod Path
+pub mod Table
+pub mod Lists
+pub mod Laws

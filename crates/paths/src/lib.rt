@@ -1,0 +1,1 @@
+// Paths through a core: register-free loops, rows and the path table; the questions check and path table.
