@@ -1,2 +1,7 @@
 -- Laws about the definitions of specs/: the crates above use these and nothing else of paths and table.
 pub mod Path
+pub mod Pigeons
+pub mod Ahead
+pub mod Simple
+pub mod Rows
+pub mod Relax

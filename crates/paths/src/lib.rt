@@ -1,1 +1,2 @@
 // Paths through a core: register-free loops, rows and the path table; the questions check and path table.
+pub mod row; // one row of the path table
