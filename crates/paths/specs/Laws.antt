@@ -5,3 +5,4 @@ pub mod Ahead
 pub mod Simple
 pub mod Rows
 pub mod Relax
+pub mod Filling

@@ -162,3 +162,38 @@ first-ahead x y W D b p e = subst (Preferred x y W D) e p
 
 pub second-ahead : (x y W D : ℕ) (b : Bool) → Preferred x y W D b → b ≡ false → Ahead W D x y
 second-ahead x y W D b p e = subst (Preferred x y W D) e p
+
+-- ---- a round that has tried the wires below j; `changed` counts the improvements
+pub record Part (s : Shape) (w : ℕ → ℕ) (u k j : ℕ) (ws₀ ds₀ ws ds : List ℕ) (changed : ℕ) : Type 0 where
+  pub row : Row s w u (k + j) ws ds
+  pub round : Round s w u j (held ws₀) (held ds₀) (held ws) (held ds)
+  pub still : changed ≡ 0 → (ws ≡ ws₀) × (ds ≡ ds₀)
+
+module _ (s : Shape) (w : ℕ → ℕ) (u k : ℕ) (ws₀ ds₀ : List ℕ) (g : Limits s w) (u-lt : u < s .n) where
+  pub part-start : Row s w u k ws₀ ds₀ → Part s w u k 0 ws₀ ds₀ ws₀ ds₀ 0
+  part-start r = record {
+    row = row-more s w u g u-lt k (k + 0) ws₀ ds₀ (omega arith) r;
+    round = round-none s w u g u-lt (held ws₀) (held ds₀);
+    still = λ _. (refl, refl);
+  }
+
+  module _ (j : ℕ) (ws ds ws′ ds′ : List ℕ) (changed changed′ : ℕ) (p : Part s w u k j ws₀ ds₀ ws ds changed) (j-lt : j < s .m) (few : k + j ≤ 16384) where
+    pub part-next : (b : Bool) → Relaxed s w u j ws ds ws′ ds′ b → (b ≡ true → changed′ ≡ changed + 1) → (b ≡ false → changed′ ≡ changed)
+        → Part s w u k (j + 1) ws₀ ds₀ ws′ ds′ changed′
+    part-next b r up same = record {
+      row = row-more s w u g u-lt (k + j + 1) (k + (j + 1)) ws′ ds′ (omega arith) (relaxed-row s w u g u-lt (k + j) j ws ds ws′ ds′ few j-lt (p .row) b r);
+      round = round-next s w u g u-lt (k + j) j ws ds ws′ ds′ few j-lt (p .row) (held ws₀) (held ds₀) (p .round) b r;
+      still = go b r up same;
+    }
+      where
+        go : (b : Bool) → Relaxed s w u j ws ds ws′ ds′ b → (b ≡ true → changed′ ≡ changed + 1) → (b ≡ false → changed′ ≡ changed)
+            → changed′ ≡ 0 → (ws′ ≡ ws₀) × (ds′ ≡ ds₀)
+        go true r up same e = absurd (omega (arith, up refl))
+        go false r up same e = let q = p .still (omega (arith, same refl)) in (r .1 ∙ q .0, r .2 ∙ q .1)
+
+  pub part-end : (ws ds : List ℕ) (j changed : ℕ) → s .m ≤ j → j ≤ s .m → s .m ≤ 256 → Part s w u k j ws₀ ds₀ ws ds changed → Rounded s w u (k + 256) ws₀ ds₀ ws ds changed
+  part-end ws ds j changed l h few p = record {
+    row = row-more s w u g u-lt (k + j) (k + 256) ws ds (omega arith) (p .row);
+    round = subst (λ (i : ℕ). Round s w u i (held ws₀) (held ds₀) (held ws) (held ds)) (omega arith) (p .round);
+    still = p .still;
+  }
