@@ -1,4 +1,5 @@
 pub mod Path
 pub mod Table
 pub mod Lists
+pub mod Loops
 pub mod Laws
