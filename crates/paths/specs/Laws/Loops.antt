@@ -16,11 +16,11 @@ use Rattle.paths.specs.Loops.Mark.{anew, idle}
 use Rattle.paths.specs.Laws.Path.{passes-all, registers-snoc, between-passes, joins-snoc}
 
 -- ---- flags
-pub marks-most : (l : List ℕ) → ((v : ℕ) → getD l v 0 ≤ 1) → marks l ≤ length l
+marks-most : (l : List ℕ) → ((v : ℕ) → getD l v 0 ≤ 1) → marks l ≤ length l
 marks-most [] h = omega arith
 marks-most (x ∷ xs) h = omega (arith, h 0, marks-most xs (λ v. h (suc v)))
 
-pub marks-set : (l : List ℕ) (i y : ℕ) → i < length l → marks (set l i y) + getD l i 0 ≡ marks l + y
+marks-set : (l : List ℕ) (i y : ℕ) → i < length l → marks (set l i y) + getD l i 0 ≡ marks l + y
 marks-set [] i y h = absurd (omega arith)
 marks-set (x ∷ xs) zero y h = omega arith
 marks-set (x ∷ xs) (suc i) y h = omega (arith, marks-set xs i y (omega arith))
@@ -52,7 +52,7 @@ module _ (seen : List ℕ) (t : ℕ) (f : Flags seen) (h : t < 64) where
       go (yes e) = rw e (omega (arith, set-here))
       go (no e) = omega (arith, getD-set-other seen t v 1 0 e, f .small v)
 
-  pub set-flags : Flags (set seen t 1)
+  set-flags : Flags (set seen t 1)
   set-flags = record { long = length-set seen t 1 ∙ f .long; small = set-small }
 
 -- no block is marked
@@ -61,7 +61,7 @@ zero-at zero v = refl
 zero-at (suc n) zero = refl
 zero-at (suc n) (suc v) = zero-at n v
 
-pub no-flags : Flags (replicate 64 0)
+no-flags : Flags (replicate 64 0)
 no-flags = record { long = length-replicate {A = ℕ} 64 0; small = λ v. omega (arith, zero-at 64 v) }
 
 pub mark-few : {f t w : ℕ} {seen after : List ℕ} {r : ℕ} → Mark f t w seen after r → r ≤ 1
@@ -114,11 +114,14 @@ module _ (s : Shape) (w : ℕ → ℕ) where
 
   -- ---- passes until one marks nothing
   -- b alone is marked
-  pub reach-start : (b : ℕ) → b < s .n → s .n ≤ 64 → Marked s w b (set (replicate 64 0) b 1)
-  reach-start b h narrow = record {
-    start = set-here (replicate 64 0) b no-flags (omega arith);
-    reached = set-seen (replicate 64 0) b no-flags (omega arith) (Free s w b) (record { wires = []; joins = (h, refl); free = refl }) (λ v q. absurd (omega (arith, zero-at 64 v)));
-  }
+  pub reach-start : (b : ℕ) → b < s .n → s .n ≤ 64 → Flags (set (replicate 64 0) b 1) × Marked s w b (set (replicate 64 0) b 1)
+  reach-start b h narrow = (
+    set-flags (replicate 64 0) b no-flags (omega arith),
+    record {
+      start = set-here (replicate 64 0) b no-flags (omega arith);
+      reached = set-seen (replicate 64 0) b no-flags (omega arith) (Free s w b) (record { wires = []; joins = (h, refl); free = refl }) (λ v q. absurd (omega (arith, zero-at 64 v)));
+    },
+  )
 
   pub reach-less : (k : ℕ) (seen after : List ℕ) (r : ℕ) → Spread s w k seen after r → 0 < r → 64 - marks after < 64 - marks seen
   reach-less k seen after r p h = omega (arith, p .counted, marks-most after (p .flags .small), p .flags .long)
