@@ -25,35 +25,24 @@ marks-set [] i y h = absurd (omega arith)
 marks-set (x ∷ xs) zero y h = omega arith
 marks-set (x ∷ xs) (suc i) y h = omega (arith, marks-set xs i y (omega arith))
 
--- the flags after a block is marked
+-- the flags after block t is marked
 module _ (seen : List ℕ) (t : ℕ) (f : Flags seen) (h : t < 64) where
-  set-here : Seen (set seen t 1) t
-  set-here = getD-set-same seen t 1 0 (omega (arith, f .long))
-
-  -- what holds of t and of every block that was marked holds of every block marked now
-  set-seen : (P : ℕ → Type 0) → P t → ((v : ℕ) → Seen seen v → P v) → (v : ℕ) → Seen (set seen t 1) v → P v
-  set-seen P here old v = go (ℕ-discrete v t)
+  -- what holds of t with 1 and of every block with its flag before holds of every block with its flag now
+  set-all : (P : ℕ → ℕ → Type 0) → P t 1 → ((v : ℕ) → P v (getD seen v 0)) → (v : ℕ) → P v (getD (set seen t 1) v 0)
+  set-all P here old v = go (ℕ-discrete v t)
     where
-      go : Dec (v ≡ t) → Seen (set seen t 1) v → P v
-      go (yes e) q = rw e here
-      go (no e) q = old v (sym (getD-set-other seen t v 1 0 e) ∙ q)
+      go : Dec (v ≡ t) → P v (getD (set seen t 1) v 0)
+      go (yes e) = rw (e, getD-set-same seen t 1 0 (omega arith)) here
+      go (no e) = rw (getD-set-other seen t v 1 0 e) (old v)
 
   set-kept : (v : ℕ) → Seen seen v → Seen (set seen t 1) v
-  set-kept v q = go (ℕ-discrete v t)
-    where
-      go : Dec (v ≡ t) → Seen (set seen t 1) v
-      go (yes e) = rw e set-here
-      go (no e) = getD-set-other seen t v 1 0 e ∙ q
-
-  set-small : (v : ℕ) → getD (set seen t 1) v 0 ≤ 1
-  set-small v = go (ℕ-discrete v t)
-    where
-      go : Dec (v ≡ t) → getD (set seen t 1) v 0 ≤ 1
-      go (yes e) = rw e (omega (arith, set-here))
-      go (no e) = omega (arith, getD-set-other seen t v 1 0 e, f .small v)
+  set-kept = set-all (λ v x. Seen seen v → x ≡ 1) (λ _. refl) (λ v q. q)
 
   set-flags : Flags (set seen t 1)
-  set-flags = record { long = length-set seen t 1 ∙ f .long; small = set-small }
+  set-flags = record { long = length-set seen t 1 ∙ f .long; small = set-all (λ v x. x ≤ 1) (omega arith) (f .small) }
+
+  set-marked : (P : ℕ → Type 0) → P t → ((v : ℕ) → Seen seen v → P v) → (v : ℕ) → Seen (set seen t 1) v → P v
+  set-marked P here = set-all (λ v x. x ≡ 1 → P v) (λ _. here)
 
 -- no block is marked
 zero-at : (n v : ℕ) → getD {A = ℕ} (replicate n 0) v 0 ≡ 0
@@ -75,7 +64,7 @@ module _ (s : Shape) (w : ℕ → ℕ) where
     on-joins = joins-snoc s u (p .wires) v j (p .joins) wire from to (between-passes s (p .wires) v (j ∷ []) (passes-all s v))
 
     on-free : registersOn w (p .wires ++ (j ∷ [])) ≡ 0
-    on-free = omega (arith, registers-snoc w (p .wires) j, p .free)
+    on-free = omega (arith, registers-snoc w (p .wires) j)
 
     on : Free s w u (s .to j)
     on = record { wires = p .wires ++ (j ∷ []); joins = on-joins; free = on-free }
@@ -88,15 +77,15 @@ module _ (s : Shape) (w : ℕ → ℕ) where
     mark-kept : after ≡ set seen (s .to k) 1 → w k ≡ 0 → Seen seen (s .from k) → (b : ℕ) → Marked s w b seen → Marked s w b after
     mark-kept e free f b m = rw e (record {
       start = set-kept seen (s .to k) (p .flags) (omega arith) b (m .start);
-      reached = set-seen seen (s .to k) (p .flags) (omega arith) (Free s w b) (on b (s .from k) k (m .reached (s .from k) f) wire refl to free) (m .reached);
+      reached = set-marked seen (s .to k) (p .flags) (omega arith) (Free s w b) (on b (s .from k) k (m .reached (s .from k) f) wire refl to free) (m .reached);
     })
 
     pub spread-mark : Mark (s .from k) (s .to k) (w k) seen after r → Spread s w (k + 1) first after (c + r)
     spread-mark (anew one e free f fresh) =
         record {
           flags = rw e (set-flags seen (s .to k) (p .flags) (omega arith));
-          few = omega (arith, p .few);
-          counted = omega (arith, p .counted, ap marks e, marks-set seen (s .to k) 1 (omega (arith, p .flags .long)));
+          few = omega arith;
+          counted = omega (arith, ap marks e, marks-set seen (s .to k) 1 (omega arith));
           kept = λ b m. mark-kept e free f b (p .kept b m);
           still = λ q. absurd (omega arith);
           closed = λ q. absurd (omega arith);
@@ -105,8 +94,8 @@ module _ (s : Shape) (w : ℕ → ℕ) where
         let none-yet : c + r ≡ 0 → c ≡ 0 = λ q. omega arith in
         record {
           flags = rw e (p .flags);
-          few = omega (arith, p .few);
-          counted = omega (arith, p .counted, ap marks e);
+          few = omega arith;
+          counted = omega (arith, ap marks e);
           kept = λ b m. rw e (p .kept b m);
           still = λ q. e ∙ p .still (none-yet q);
           closed = λ q. below-more (Closed s w first) k (p .closed (none-yet q)) (rw (p .still (none-yet q)) at shut);
@@ -118,28 +107,28 @@ module _ (s : Shape) (w : ℕ → ℕ) where
   reach-start b h narrow = (
     set-flags (replicate 64 0) b no-flags (omega arith),
     record {
-      start = set-here (replicate 64 0) b no-flags (omega arith);
-      reached = set-seen (replicate 64 0) b no-flags (omega arith) (Free s w b) (record { wires = []; joins = (h, refl); free = refl }) (λ v q. absurd (omega (arith, zero-at 64 v)));
+      start = getD-set-same (replicate 64 0) b 1 0 (omega (arith, no-flags .long));
+      reached = set-marked (replicate 64 0) b no-flags (omega arith) (Free s w b) (record { wires = []; joins = (h, refl); free = refl }) (λ v q. absurd (omega (arith, zero-at 64 v)));
     },
   )
 
   pub reach-less : (k : ℕ) (seen after : List ℕ) (r : ℕ) → Spread s w k seen after r → 0 < r → 64 - marks after < 64 - marks seen
-  reach-less k seen after r p h = omega (arith, p .counted, marks-most after (p .flags .small), p .flags .long)
+  reach-less k seen after r p h = omega (arith, marks-most after (p .flags .small), p .flags .long)
 
-  pub reach-end : (b k : ℕ) (seen after : List ℕ) (r : ℕ) → k ≡ s .m → Marked s w b seen → Spread s w k seen after r → r ≡ 0 → Reached s w b after
-  reach-end b k seen after r e m p q = record { flags = p .flags; marked = p .kept b m; closed = rw (p .still q) (λ j h. p .closed q j (omega arith)) }
+  pub reach-end : (b : ℕ) (seen after : List ℕ) (r : ℕ) → Marked s w b seen → Spread s w (s .m) seen after r → r ≡ 0 → Reached s w b after
+  reach-end b seen after r m p q = record { flags = p .flags; marked = p .kept b m; closed = rw (p .still q) (p .closed q) }
 
   -- ---- a wire back to b is a loop, and a loop has one
   module _ (b : ℕ) (seen : List ℕ) (p : Reached s w b seen) where
-    loop-of : (ws : List ℕ) (j : ℕ) → Joins s b (ws ++ (j ∷ [])) b → registersOn w (ws ++ (j ∷ [])) ≡ 0 → LoopAt s w b
-    loop-of [] j h f = record { wire = j; wires = []; joins = h; free = f; passes = passes-all s b }
-    loop-of (i ∷ ws) j h f = record { wire = i; wires = ws ++ (j ∷ []); joins = h; free = f; passes = passes-all s b }
+    loop-of : (ws : List ℕ) (j : ℕ) → Joins s b (ws ++ (j ∷ [])) b → registersOn w (ws ++ (j ∷ [])) ≡ 0 → Passes s b → LoopAt s w b
+    loop-of [] j h f o = record { wire = j; wires = []; joins = h; free = f; passes = o }
+    loop-of (i ∷ ws) j h f o = record { wire = i; wires = ws ++ (j ∷ []); joins = h; free = f; passes = o }
 
     pub back-loop : (j : ℕ) → b < s .n → j < s .m → Back b (s .from j) (s .to j) (w j) seen → LoopAt s w b
     back-loop j h wire g =
         let path = p .marked .reached (s .from j) (g .2) in
-        let to : s .to j < s .n = omega (arith, g .1) in
-        loop-of (path .wires) j (rw (g .1) at (on-joins b (s .from j) j path wire refl to (g .0))) (on-free b (s .from j) j path wire refl to (g .0))
+        let to : s .to j < s .n = omega arith in
+        loop-of (path .wires) j (rw (g .1) at (on-joins b (s .from j) j path wire refl to (g .0))) (on-free b (s .from j) j path wire refl to (g .0)) (passes-all s b)
 
     no-back : (u j : ℕ) (ws : List ℕ) → ((k : ℕ) → k < s .m → Back b (s .from k) (s .to k) (w k) seen → ⊥) → Seen seen u → Joins s u (j ∷ ws) b → registersOn w (j ∷ ws) ≡ 0 → ⊥
     no-back u j [] none q h f = none j (h .1) (omega arith, h .4 .1, rw (h .2) q)
