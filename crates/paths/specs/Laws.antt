@@ -3,6 +3,7 @@ pub mod Path
 pub mod Pigeons
 pub mod Ahead
 pub mod Simple
+pub mod Loops
 pub mod Rows
 pub mod Relax
 pub mod Filling

@@ -1,5 +1,6 @@
 pub mod Path
 pub mod Table
 pub mod Lists
+pub mod Loops
 pub mod Row
 pub mod Laws
