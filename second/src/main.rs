@@ -1,4 +1,4 @@
-//! The second program: `second cases DIR` writes the cases and expected answers, `second one FILE` asks one sheet.
+//! The second program: `second cases DIR` writes the cases and expected answers, the other commands ask one sheet.
 
 mod cases;
 mod known;
@@ -13,7 +13,7 @@ use std::path::Path;
 use std::process::ExitCode;
 use std::{env, fs, io};
 
-const USAGE: &str = "usage: second cases DIR | second one FILE";
+const USAGE: &str = "usage: second cases DIR | second one FILE | second move FILE LAG...";
 
 fn write_cases(dir: &Path) -> io::Result<()> {
     let (mut input, mut expected) = (Vec::new(), String::new());
@@ -54,16 +54,38 @@ fn ask_one(bytes: &[u8]) {
     }
 }
 
+fn show_moved(bytes: &[u8], lags: &[i16]) {
+    let mut out = vec![0; bytes.len()];
+    let answer = questions::move_sheet(bytes, lags, &mut out);
+    println!("move: {}", show(answer));
+    if answer.number != 0 {
+        return;
+    }
+    println!("period: {}, then {}", questions::period(bytes).value, questions::period(&out).value);
+    let read = |b: &[u8]| sheet::frame(b).and_then(|f| sheet::entries(b, f)).expect("answer 0 means sound");
+    for (i, (old, new)) in read(bytes).wires.iter().zip(&read(&out).wires).enumerate() {
+        println!("wire {i}: {} to {}, {} then {} registers", old.from, old.to, old.registers, new.registers);
+    }
+}
+
+fn bad_usage() -> ExitCode {
+    eprintln!("{USAGE}");
+    ExitCode::from(2)
+}
+
 fn main() -> ExitCode {
     let words: Vec<String> = env::args().skip(1).collect();
     let words: Vec<&str> = words.iter().map(String::as_str).collect();
     let outcome = match words[..] {
         ["cases", dir] => write_cases(Path::new(dir)),
         ["one", file] => fs::read(file).map(|bytes| ask_one(&bytes)),
-        _ => {
-            eprintln!("{USAGE}");
-            return ExitCode::from(2);
+        ["move", file, ref lags @ ..] => {
+            let Ok(lags) = lags.iter().map(|l| l.parse()).collect::<Result<Vec<i16>, _>>() else {
+                return bad_usage();
+            };
+            fs::read(file).map(|bytes| show_moved(&bytes, &lags))
         }
+        _ => return bad_usage(),
     };
     match outcome {
         Ok(()) => ExitCode::SUCCESS,

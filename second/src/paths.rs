@@ -1,4 +1,4 @@
-//! Paths of a sound sheet: register-free loops by bit rows, the path table by Floyd and Warshall.
+//! Paths of a sound sheet: register-free loops by bit rows, the path table by Floyd and Warshall, the period.
 
 use crate::sheet::Sheet;
 
@@ -76,6 +76,29 @@ pub fn table(sheet: &Sheet) -> Table {
     Table { n, entries }
 }
 
+/// The largest delay of a register-free path, taking blocks away once nothing register-free leads to them.
+pub fn period(sheet: &Sheet) -> u32 {
+    let n = sheet.n();
+    let free = || sheet.wires.iter().filter(|w| w.registers == 0);
+    let mut waiting = vec![0; n];
+    for w in free() {
+        waiting[w.to as usize] += 1;
+    }
+    let mut longest: Vec<u32> = sheet.blocks.iter().map(|b| b.delay).collect();
+    let mut ready: Vec<usize> = (0..n).filter(|&b| waiting[b] == 0).collect();
+    while let Some(u) = ready.pop() {
+        for w in free().filter(|w| w.from as usize == u) {
+            let v = w.to as usize;
+            longest[v] = longest[v].max(longest[u] + sheet.blocks[v].delay);
+            waiting[v] -= 1;
+            if waiting[v] == 0 {
+                ready.push(v);
+            }
+        }
+    }
+    longest.into_iter().max().unwrap_or(0)
+}
+
 #[cfg(test)]
 mod tests {
     use super::*;
@@ -141,6 +164,23 @@ mod tests {
         assert_eq!(smallest_loop_block(&s), Some(2));
         let own = known::sheet(&[0; 3], &[(2, 2, 0), (1, 1, 1)]);
         assert_eq!(smallest_loop_block(&own), Some(2));
+    }
+
+    #[test]
+    fn periods_by_the_table() {
+        assert_eq!(period(&known::ring()), 12);
+        assert_eq!(period(&known::correlator()), 24);
+        assert_eq!(period(&known::filter()), 3);
+        assert_eq!(period(&known::host_alone()), 0);
+        // The single block counts, also without any wire.
+        assert_eq!(period(&known::sheet(&[0, 4], &[])), 4);
+        let mut rng = Random::new(79);
+        for round in 0..300 {
+            let (n, m) = (1 + rng.below(64), rng.below(257));
+            let s = shapes::sound(&mut rng, n, m, 1 + round % 4, 10_000);
+            let free = table(&s).entries.iter().filter(|e| e.0 == 0).map(|e| e.1).max();
+            assert_eq!(Some(period(&s)), free);
+        }
     }
 
     // Follows every path that passes no block twice.

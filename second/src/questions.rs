@@ -1,7 +1,7 @@
 //! The questions: each gives number, place and value and leaves its lists as the scope says.
 
 use crate::paths;
-use crate::sheet::{self, refusal, Refusal, Sheet};
+use crate::sheet::{self, refusal, Refusal, Sheet, MOST_REGISTERS};
 
 pub const CHECK: u8 = 1;
 pub const TABLE: u8 = 3;
@@ -59,10 +59,55 @@ pub fn path_table(bytes: &[u8], registers: &mut [u32], delays: &mut [u32]) -> An
     }
 }
 
+pub fn period(bytes: &[u8]) -> Answer {
+    match sound_sheet(bytes, &[]) {
+        Ok(sheet) => Answer { value: paths::period(&sheet), ..DONE },
+        Err(r) => r.into(),
+    }
+}
+
+/// The moved sheet, or refusal 8 or 9; one lag for each block.
+fn moved(sheet: &Sheet, lags: &[i16]) -> Result<Sheet, Refusal> {
+    let outside = |(i, b): (usize, &sheet::Block)| !(b.lower..=b.upper).contains(&lags[i]);
+    if let Some(bad) = sheet.blocks.iter().enumerate().position(outside) {
+        return Err(refusal(8, bad));
+    }
+    let mut after = sheet.clone();
+    for (b, lag) in after.blocks.iter_mut().zip(lags) {
+        b.lower -= lag;
+        b.upper -= lag;
+    }
+    for (i, w) in after.wires.iter_mut().enumerate() {
+        let registers = w.registers as i32 + lags[w.to as usize] as i32 - lags[w.from as usize] as i32;
+        if !(0..=MOST_REGISTERS as i32).contains(&registers) {
+            return Err(refusal(9, i));
+        }
+        w.registers = registers as u16;
+    }
+    Ok(after)
+}
+
+/// Named so because `move` is a word of the language.
+pub fn move_sheet(bytes: &[u8], lags: &[i16], out: &mut [u8]) -> Answer {
+    let whole = |f: sheet::Frame| sheet::total(f.n, f.m);
+    let done = sound_sheet(bytes, &[(lags.len(), |f| f.n), (out.len(), whole)])
+        .and_then(|sheet| moved(&sheet, &lags[..sheet.n()]));
+    match done {
+        Ok(after) => {
+            let written = after.bytes();
+            out[..written.len()].copy_from_slice(&written);
+            DONE
+        }
+        Err(r) => r.into(),
+    }
+}
+
 #[cfg(test)]
 mod tests {
     use super::*;
     use crate::known;
+    use crate::random::Random;
+    use crate::shapes;
 
     fn answer(number: u32, place: u32) -> Answer {
         Answer { number, place, value: 0 }
@@ -114,5 +159,102 @@ mod tests {
         let own = |registers| known::sheet(&[0, 5], &[(1, 1, registers)]).bytes();
         assert_eq!(check(&own(1)), DONE);
         assert_eq!(check(&own(0)), answer(7, 1));
+    }
+
+    fn after(sheet: &Sheet, lags: &[i16]) -> Result<Sheet, Answer> {
+        let bytes = sheet.bytes();
+        let mut out = vec![0; bytes.len()];
+        match move_sheet(&bytes, lags, &mut out) {
+            DONE => Ok(sheet::frame(&out).and_then(|f| sheet::entries(&out, f)).expect("a moved sheet is sound")),
+            refused => Err(refused),
+        }
+    }
+
+    fn registers(sheet: &Sheet) -> Vec<u16> {
+        sheet.wires.iter().map(|w| w.registers).collect()
+    }
+
+    #[test]
+    fn periods() {
+        assert_eq!(period(&known::ring().bytes()), Answer { value: 12, ..DONE });
+        assert_eq!(period(&known::correlator().bytes()), Answer { value: 24, ..DONE });
+        assert_eq!(period(&known::host_alone().bytes()), DONE);
+        assert_eq!(period(&[0; 15]), answer(1, 0));
+    }
+
+    #[test]
+    fn the_ring_moved() {
+        let moved = after(&known::ring(), &[0, 0, 0, 1]).expect("permitted");
+        assert_eq!(registers(&moved), [1, 0, 1, 0]);
+        assert_eq!((moved.blocks[3].lower, moved.blocks[3].upper), (-3, 1));
+        assert_eq!(moved.blocks[..3], known::ring().blocks[..3]);
+        assert_eq!(paths::period(&moved), 7);
+        // Back again.
+        assert_eq!(after(&moved, &[0, 0, 0, -1]), Ok(known::ring()));
+    }
+
+    #[test]
+    fn the_parallel_pair_moved() {
+        let pair = known::parallel_pair();
+        assert_eq!(after(&pair, &[0, -1]).map(|s| registers(&s)), Ok(vec![0, 2, 1]));
+        assert_eq!(after(&pair, &[0, -2]), Err(answer(9, 0)));
+        assert_eq!(after(&pair, &[0, 1]), Err(answer(9, 2)));
+    }
+
+    #[test]
+    fn refusals_of_a_move() {
+        let ring = known::ring();
+        assert_eq!(after(&ring, &[1, 0, 0, 0]), Err(answer(8, 0)));
+        assert_eq!(after(&ring, &[0, 0, 3, -3]), Err(answer(8, 2)));
+        assert_eq!(after(&ring, &[0, 0, 0, -3]), Err(answer(8, 3)));
+        assert_eq!(after(&ring, &[0, i16::MIN, 0, 0]), Err(answer(8, 1)));
+        // A lag outside its range comes before a wire.
+        assert_eq!(after(&ring, &[0, -2, 0, 3]), Err(answer(8, 3)));
+        assert_eq!(after(&ring, &[0, -2, 0, 0]), Err(answer(9, 0)));
+        let full = known::sheet(&[0, 1], &[(0, 1, 1_999)]);
+        assert_eq!(after(&full, &[0, 1]).map(|s| registers(&s)), Ok(vec![2_000]));
+        assert_eq!(after(&full, &[0, 2]), Err(answer(9, 0)));
+    }
+
+    #[test]
+    fn lists_of_a_move() {
+        let bytes = known::ring().bytes();
+        let ask = |lags: usize, room: usize| move_sheet(&bytes, &vec![0; lags], &mut vec![9; room]);
+        assert_eq!(ask(3, 79), answer(4, 0));
+        assert_eq!(ask(4, 79), answer(4, 1));
+        assert_eq!(ask(4, 80), DONE);
+        // Further lags are not read, further room stays.
+        let mut out = vec![9; 82];
+        assert_eq!(move_sheet(&bytes, &[0, 0, 0, 0, 2_000], &mut out), DONE);
+        assert_eq!((&out[..80], &out[80..]), (&bytes[..], &[9, 9][..]));
+    }
+
+    #[test]
+    fn a_move_shifts_every_path() {
+        let mut rng = Random::new(80);
+        let mut done = 0;
+        for _ in 0..2_000 {
+            let n = 1 + rng.below(6);
+            let m = rng.below(8);
+            let mut s = shapes::sound(&mut rng, n, m, 4, 9);
+            for b in &mut s.blocks[1..] {
+                (b.lower, b.upper) = (-2, 2);
+            }
+            let mut lags: Vec<i16> = (0..n).map(|_| rng.between(-1, 1) as i16).collect();
+            lags[0] = 0;
+            let Ok(moved) = after(&s, &lags) else { continue };
+            done += 1;
+            assert_eq!(check(&moved.bytes()), DONE);
+            let (old, new) = (paths::table(&s), paths::table(&moved));
+            for u in 0..n {
+                for v in 0..n {
+                    let (fewest, delay) = old.at(u, v);
+                    let shifted = fewest.wrapping_add_signed((lags[v] - lags[u]) as i32);
+                    let expected = if fewest == u32::MAX { (fewest, 0) } else { (shifted, delay) };
+                    assert_eq!(new.at(u, v), expected);
+                }
+            }
+        }
+        assert!(done > 200);
     }
 }
