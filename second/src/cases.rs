@@ -1,0 +1,107 @@
+//! The cases, kind by kind; each kind has its own seed, so that one can grow without changing the others.
+
+mod entries;
+mod frames;
+mod lists;
+mod loops;
+mod sounds;
+
+use crate::random::Random;
+use crate::record::{Case, MOST_ENTRIES};
+use std::collections::HashSet;
+
+/// The cases written so far.
+pub struct Book {
+    pub cases: Vec<Case>,
+    rng: Random,
+}
+
+/// The square of the block count that these bytes name, as far as a list can be that long.
+fn square(sheet: &[u8]) -> usize {
+    if sheet.len() < 2 {
+        return 0;
+    }
+    let n = u16::from_le_bytes([sheet[0], sheet[1]]) as usize;
+    (n * n).min(MOST_ENTRIES)
+}
+
+impl Book {
+    fn check(&mut self, sheet: &[u8]) {
+        self.cases.push(Case::check(sheet.to_vec()));
+    }
+
+    fn table(&mut self, sheet: &[u8], a: usize, b: usize) {
+        self.cases.push(Case::table(sheet.to_vec(), a, b));
+    }
+
+    /// The table with lists long enough, sometimes a little longer.
+    fn roomy(&mut self, sheet: &[u8]) {
+        let need = square(sheet);
+        let mut more = [0; 2];
+        for m in more.iter_mut() {
+            if self.rng.chance(30) {
+                *m = self.rng.below(4);
+            }
+        }
+        self.table(sheet, (need + more[0]).min(MOST_ENTRIES), (need + more[1]).min(MOST_ENTRIES));
+    }
+
+    fn both(&mut self, sheet: &[u8]) {
+        self.check(sheet);
+        self.roomy(sheet);
+    }
+
+    /// One of the two questions, for kinds with many sheets.
+    fn either(&mut self, sheet: &[u8]) {
+        if self.rng.chance(50) {
+            self.check(sheet);
+        } else {
+            self.roomy(sheet);
+        }
+    }
+}
+
+pub fn all() -> Vec<Case> {
+    let mut book = Book { cases: Vec::new(), rng: Random::new(1) };
+    let kinds: [fn(&mut Book, &mut Random); 5] =
+        [frames::cases, entries::cases, lists::cases, loops::cases, sounds::cases];
+    for (i, kind) in kinds.iter().enumerate() {
+        book.rng = Random::new(1_000 + i as u64);
+        kind(&mut book, &mut Random::new(2_000 + i as u64));
+    }
+    // A case that repeats another word for word tells nothing more.
+    let mut seen = HashSet::new();
+    book.cases.retain(|case| seen.insert(case.clone()));
+    book.cases
+}
+
+#[cfg(test)]
+mod tests {
+    use super::*;
+    use crate::record::BEFORE;
+
+    #[test]
+    fn every_answer_of_the_two_questions_occurs() {
+        let mut seen = [[0usize; 8]; 4];
+        let mut size = 0;
+        let mut text = String::new();
+        for case in all() {
+            let mut bytes = Vec::new();
+            case.write(&mut bytes);
+            size += bytes.len();
+            seen[case.question as usize][case.expect(&mut text).number as usize] += 1;
+        }
+        assert!(size <= 1_000_000);
+        assert!(text.len() <= 3_000_000);
+        assert!(!text.contains("changed"));
+        // No answer can look like an untouched entry.
+        assert!(!text.contains(&format!(" {BEFORE} ")));
+        for number in [0, 1, 2, 3, 5, 6, 7] {
+            assert!(seen[1][number] >= 30, "check answers {number}");
+        }
+        for number in 0..8 {
+            assert!(seen[3][number] >= 30, "table answers {number}");
+        }
+        assert_eq!(seen[1][4], 0);
+    }
+}
