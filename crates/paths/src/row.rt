@@ -3,6 +3,8 @@ ghost use mathlib.Core.Path.{_≡_};
 ghost use Prim.Native.Nat.{ℕ, _+_, _*_, _<_, _≤_};
 ghost use lib.ListN.{length, getD, set};
 ghost use Rattle.paths.specs.Lists.{held, listShape, Wires, Delays};
+ghost use Rattle.sheet.specs.Filled.{filled};
+ghost use Rattle.paths.specs.Table.{LoopAt};
 ghost use Rattle.paths.specs.Row.{baseOf, Row, Relaxed, Rounded, RowRight, Preferred};
 
 // The registers of a pair that no path joins.
@@ -92,4 +94,52 @@ fn relax(n: usize, m: usize, delays: &[u32; 64], from: &[usize; 256], to: &[usiz
         return true;
     }
     false
+}
+
+// One round over all wires: the number of improvements. `done` counts the rounds before it and bounds the row's numbers.
+fn round(n: usize, m: usize, delays: &[u32; 64], from: &[usize; 256], to: &[usize; 256], registers: &[u32; 256], u: usize, done: usize, ws: &mut [u32], ds: &mut [u32]) -> usize
+    requires { ⌜ Wires n m (now from) (now to) (now registers) × Delays n (now delays) × (u < n) × (done < 64) ⌝ }
+    requires { ⌜ Row (listShape n m (now delays) (now from) (now to)) (held (now registers)) u (256 * done) (now ws) (now ds) ⌝ }
+    ensures { λ r. ⌜ Rounded (listShape n m (now (delays .entry)) (now (from .entry)) (now (to .entry))) (held (now (registers .entry))) u (256 * done + 256) (now (ws .entry)) (now (ds .entry)) (now (ws .exit)) (now (ds .exit)) r ⌝ }
+{
+    let mut changed: usize = 0;
+    let mut j: usize = 0;
+    while j < m {
+        if relax(n, m, delays, from, to, registers, u, j, ws, ds) {
+            changed += 1;
+        }
+        j += 1;
+    }
+    changed
+}
+
+// Every pair without a path.
+fn blank(n: usize, ws: &mut [u32], ds: &mut [u32])
+    requires { ⌜ (n ≤ length (now ws)) × (n ≤ length (now ds)) ⌝ }
+    ensures { λ _. ⌜ (now (ws .exit) ≡ filled (λ _. 4294967295) n (now (ws .entry))) × (now (ds .exit) ≡ filled (λ _. 0) n (now (ds .entry))) ⌝ }
+{
+    let mut v: usize = 0;
+    while v < n {
+        ws[v] = FAR;
+        ds[v] = 0;
+        v += 1;
+    }
+}
+
+// The row of block u: at most n rounds from the bare start block.
+pub fn fill_row(n: usize, m: usize, delays: &[u32; 64], from: &[usize; 256], to: &[usize; 256], registers: &[u32; 256], u: usize, ws: &mut [u32], ds: &mut [u32])
+    requires { ⌜ Wires n m (now from) (now to) (now registers) × Delays n (now delays) × (u < n) × (length (now ws) ≡ n) × (length (now ds) ≡ n) ⌝ }
+    requires { ⌜ ((b : ℕ) → LoopAt (listShape n m (now delays) (now from) (now to)) (held (now registers)) b → ⊥) ⌝ }
+    ensures { λ _. ⌜ RowRight (listShape n m (now (delays .entry)) (now (from .entry)) (now (to .entry))) (held (now (registers .entry))) u (now (ws .exit)) (now (ds .exit)) ⌝ }
+{
+    blank(n, ws, ds);
+    put(ws, u, 0);
+    put(ds, u, delay_at(delays, n, u));
+    let mut done: usize = 0;
+    while done < n {
+        if round(n, m, delays, from, to, registers, u, done, ws, ds) == 0 {
+            return;
+        }
+        done += 1;
+    }
 }

@@ -37,7 +37,7 @@ pub record Limits (s : Shape) (w : ℕ → ℕ) : Type 0 where
   pub small : (b : ℕ) → b < s .n → s .delay b ≤ 10000
 
 module _ (s : Shape) (w : ℕ → ℕ) (u : ℕ) (g : Limits s w) (u-lt : u < s .n) where
-  row-more : (k k′ : ℕ) (ws ds : List ℕ) → k ≤ k′ → Row s w u k ws ds → Row s w u k′ ws ds
+  pub row-more : (k k′ : ℕ) (ws ds : List ℕ) → k ≤ k′ → Row s w u k ws ds → Row s w u k′ ws ds
   row-more k k′ ws ds l r = record {
     ws-long = r .ws-long;
     ds-long = r .ds-long;
