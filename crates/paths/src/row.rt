@@ -126,15 +126,23 @@ fn blank(n: usize, ws: &mut [u32], ds: &mut [u32])
     }
 }
 
+// The row of block u before any wire: the start block alone.
+fn clear(n: usize, delays: &[u32; 64], u: usize, ws: &mut [u32], ds: &mut [u32])
+    requires { ⌜ Delays n (now delays) × (n ≤ 64) × (u < n) × (length (now ws) ≡ n) × (length (now ds) ≡ n) ⌝ }
+    ensures { λ _. ⌜ (now (ws .exit) ≡ set (filled (λ _. 4294967295) n (now (ws .entry))) u 0) × (now (ds .exit) ≡ set (filled (λ _. 0) n (now (ds .entry))) u (getD (now (delays .entry)) u 0)) ⌝ }
+{
+    blank(n, ws, ds);
+    put(ws, u, 0);
+    put(ds, u, delay_at(delays, n, u));
+}
+
 // The row of block u: at most n rounds from the bare start block.
 pub fn fill_row(n: usize, m: usize, delays: &[u32; 64], from: &[usize; 256], to: &[usize; 256], registers: &[u32; 256], u: usize, ws: &mut [u32], ds: &mut [u32])
     requires { ⌜ Wires n m (now from) (now to) (now registers) × Delays n (now delays) × (u < n) × (length (now ws) ≡ n) × (length (now ds) ≡ n) ⌝ }
     requires { ⌜ ((b : ℕ) → LoopAt (listShape n m (now delays) (now from) (now to)) (held (now registers)) b → ⊥) ⌝ }
     ensures { λ _. ⌜ RowRight (listShape n m (now (delays .entry)) (now (from .entry)) (now (to .entry))) (held (now (registers .entry))) u (now (ws .exit)) (now (ds .exit)) ⌝ }
 {
-    blank(n, ws, ds);
-    put(ws, u, 0);
-    put(ds, u, delay_at(delays, n, u));
+    clear(n, delays, u, ws, ds);
     let mut done: usize = 0;
     while done < n {
         if round(n, m, delays, from, to, registers, u, done, ws, ds) == 0 {

@@ -22,6 +22,11 @@ use Rattle.paths.specs.Laws.Relax.{Limits, entry}
 pub limits : (n m : ℕ) (delays from to registers : List ℕ) → Wires n m from to registers → Delays n delays → Limits (listShape n m delays from to) (held registers)
 limits n m delays from to registers a b = record { from-block = a .from-block; to-block = a .to-block; few = a .few; small = b .small }
 
+-- a row after `done` rounds
+pub record Filling (s : Shape) (w : ℕ → ℕ) (u done : ℕ) (ws ds : List ℕ) : Type 0 where
+  pub row : Row s w u (256 * done) ws ds
+  pub covers : Covers s w u done (held ws) (held ds)
+
 module _ (s : Shape) (w : ℕ → ℕ) (u : ℕ) (g : Limits s w) (u-lt : u < s .n) where
   -- ---- the cleared row: the start block alone
   module _ (ws₀ ds₀ ws ds : List ℕ) (d : ℕ) (ws-long : length ws₀ ≡ s .n) (ds-long : length ds₀ ≡ s .n) (d-is : d ≡ s .delay u)
@@ -53,14 +58,9 @@ module _ (s : Shape) (w : ℕ → ℕ) (u : ℕ) (g : Limits s w) (u-lt : u < s 
         rw (ws-is, ds-is, getD-set-same (filled (λ _. 4294967295) (s .n) ws₀) u 0 0 (omega (arith, length-filled (λ _. 4294967295) (s .n) ws₀)), getD-set-same (filled (λ _. 0) (s .n) ds₀) u d 0 (omega (arith, length-filled (λ _. 0) (s .n) ds₀)))
         (level refl (omega arith))
 
-  -- ---- a row after `done` rounds
-  pub record Filling (done : ℕ) (ws ds : List ℕ) : Type 0 where
-    pub row : Row s w u (256 * done) ws ds
-    pub covers : Covers s w u done (held ws) (held ds)
-
   module _ (free : (b : ℕ) → LoopAt s w b → ⊥) (n-le : s .n ≤ 64) where
     pub filling-start : (ws₀ ds₀ ws ds : List ℕ) (d : ℕ) → length ws₀ ≡ s .n → length ds₀ ≡ s .n → d ≡ s .delay u
-        → ws ≡ set (filled (λ _. 4294967295) (s .n) ws₀) u 0 → ds ≡ set (filled (λ _. 0) (s .n) ds₀) u d → Filling 0 ws ds
+        → ws ≡ set (filled (λ _. 4294967295) (s .n) ws₀) u 0 → ds ≡ set (filled (λ _. 0) (s .n) ds₀) u d → Filling s w u 0 ws ds
     filling-start ws₀ ds₀ ws ds d p q e a b = record {
       row = cleared-row ws₀ ds₀ ws ds d p q e a b;
       covers = covers-start s w u free (g .few) (held ws) (held ds) (start-ahead ws₀ ds₀ ws ds d p q e a b);
@@ -73,9 +73,9 @@ module _ (s : Shape) (w : ℕ → ℕ) (u : ℕ) (g : Limits s w) (u-lt : u < s 
       entry = λ v l. covered-entry s w u free (g .few) n-le (held ws) (held ds) c v (r .real v l) (r .blank v l);
     }
 
-    module _ (done : ℕ) (ws ds ws′ ds′ : List ℕ) (changed : ℕ) (few : done < s .n) (f : Filling done ws ds)
+    module _ (done : ℕ) (ws ds ws′ ds′ : List ℕ) (changed : ℕ) (few : done < s .n) (f : Filling s w u done ws ds)
         (r : Rounded s w u (256 * done + 256) ws ds ws′ ds′ changed) where
-      pub filling-turn : Filling (done + 1) ws′ ds′
+      pub filling-turn : Filling s w u (done + 1) ws′ ds′
       filling-turn = record {
         row = subst (λ (k : ℕ). Row s w u k ws′ ds′) (omega arith) (r .row);
         covers = covers-next s w u free (g .few) done (omega arith) (held ws) (held ds) (held ws′) (held ds′) (f .covers) (r .round);
@@ -93,5 +93,5 @@ module _ (s : Shape) (w : ℕ → ℕ) (u : ℕ) (g : Limits s w) (u-lt : u < s 
       pub filling-stops : changed ≡ 0 → RowRight s w u ws′ ds′
       filling-stops e = right (256 * done + 256) ws′ ds′ (r .row) (still-covers e)
 
-    pub filling-ends : (done : ℕ) (ws ds : List ℕ) → s .n ≤ done → done ≤ s .n → Filling done ws ds → RowRight s w u ws ds
+    pub filling-ends : (done : ℕ) (ws ds : List ℕ) → s .n ≤ done → done ≤ s .n → Filling s w u done ws ds → RowRight s w u ws ds
     filling-ends done ws ds l h f = right (256 * done) ws ds (f .row) (subst (λ (k : ℕ). Covers s w u k (held ws) (held ds)) (omega arith) (f .covers))

@@ -1,77 +1,57 @@
+-- Round after round covers one wire more; n rounds, or one that changes nothing, give the row.
+use borrow.Author.Needs.{needs}
+use native.Mathlib.Omega.{arith}
+use mathlib.Core.Path.{_≡_, refl, sym, _∙_}
+use Prim.Native.Nat.{ℕ, _≤_, _<_, _-_, _*_, _+_}
+use lib.ListN.{length}
+use Rattle.paths.specs.Lists.{listShape, held}
+use Rattle.paths.specs.Laws.Filling.{limits, Filling, filling-start, filling-turn, filling-stops, filling-ends}
 use Rattle.paths.proofs.row.fill_row.Statement.{statement}
 use Rattle.paths.proofs.row.fill_row.Tie as tie
-use Rattle.paths.proofs.row.fill_row.Reads as reads
-use Rattle.paths.proofs.row.fill_row.Lts as lts
-use Rattle.paths.proofs.row.blank.Reads as blank-reads
-use Rattle.paths.proofs.row.delay_at.Reads as delay-at-reads
-use Rattle.paths.proofs.row.put.Reads as put-reads
-use Rattle.paths.proofs.row.round.Reads as round-reads
 
 abbrev Inv-loop : tie.InvT-loop
-Inv-loop n m delays from to registers u ws₀ ds₀ done₀ ws ds done = ?
+Inv-loop n m delays from to registers u ws₀ ds₀ done₀ ws ds done = (done ≤ n) × (length ws ≡ n) × (length ds ≡ n) × Filling (listShape n m delays from to) (held registers) u done ws ds
 
 abbrev μ-loop : tie.MeasureT-loop
-μ-loop n m delays from to registers u ws₀ ds₀ done₀ ws ds done = ?
+μ-loop n m delays from to registers u ws₀ ds₀ done₀ ws ds done = n - done
 
--- src/row.rt:135:5
-blank-requires : tie.Need-blank-requires Inv-loop μ-loop
-blank-requires c κs = ?
+clear-requires : tie.Need-clear-requires Inv-loop μ-loop
+clear-requires c κs = search needs
 
--- src/row.rt:136:5
-put-requires : tie.Need-put-requires Inv-loop μ-loop
-put-requires c κs = ?
-
--- src/row.rt:137:16
-delay-at-requires : tie.Need-delay-at-requires Inv-loop μ-loop
-delay-at-requires c κs = ?
-
--- src/row.rt:137:5
-put-requires-2 : tie.Need-put-requires-2 Inv-loop μ-loop
-put-requires-2 c κs = ?
-
--- src/row.rt:139:5
 loop-holds : tie.Need-loop-holds Inv-loop μ-loop
-loop-holds c = ?
+loop-holds c = let f = filling-start _ _ _ (limits _ _ _ _ _ _ (c .before .before .before .before .before .before .before .before .before .pre .0 .0) (c .before .before .before .before .before .before .before .before .before .pre .0 .1)) (c .before .before .before .before .before .before .before .before .before .pre .0 .2) (c .before .before .before .before .before .before .before .before .before .pre .1) (c .before .before .before .before .before .before .before .before .before .pre .0 .0 .few-blocks) _ _ _ _ _ (c .before .before .before .before .before .before .before .before .before .pre .0 .3) (c .before .before .before .before .before .before .before .before .before .pre .0 .4) refl (c .before .before .before .before .clear .ensures .0) (c .before .before .before .before .clear .ensures .1) in
+    (search needs, f .row .ws-long, f .row .ds-long, f)
 
--- src/row.rt:140:12
 round-requires : tie.Need-round-requires Inv-loop μ-loop
-round-requires c κs = ?
+round-requires c κs = ((c .before .before .before .before .before .before .before .before .before .before .before .before .before .pre .0 .0, c .before .before .before .before .before .before .before .before .before .before .before .before .before .pre .0 .1, c .before .before .before .before .before .before .before .before .before .before .before .before .before .pre .0 .2, omega (arith, c .before .before .before .before .before .before .before .before .before .before .before .before .before .pre .0 .0 .few-blocks)), c .before .before .before .loop .inv .3 .row)
 
--- src/row.rt:141:13
 same-length : tie.Need-same-length Inv-loop μ-loop
-same-length c = ?
+same-length c = (c .before .before .before .before .before .round .ensures .row .ws-long) ∙ sym (c .before .before .before .before .before .before .before .before .before .before .before .before .before .before .before .before .before .before .before .pre .0 .3)
 
--- src/row.rt:141:13
 same-length-2 : tie.Need-same-length-2 Inv-loop μ-loop
-same-length-2 c = ?
+same-length-2 c = (c .before .before .before .before .before .round .ensures .row .ds-long) ∙ sym (c .before .before .before .before .before .before .before .before .before .before .before .before .before .before .before .before .before .before .before .pre .0 .4)
 
--- src/row.rt:141:13
 returns : tie.Need-returns Inv-loop μ-loop
-returns c = ?
+returns c = filling-stops _ _ _ (limits _ _ _ _ _ _ (c .before .before .before .before .before .before .before .before .before .before .before .before .before .before .before .before .before .before .before .pre .0 .0) (c .before .before .before .before .before .before .before .before .before .before .before .before .before .before .before .before .before .before .before .pre .0 .1)) (c .before .before .before .before .before .before .before .before .before .before .before .before .before .before .before .before .before .before .before .pre .0 .2) (c .before .before .before .before .before .before .before .before .before .before .before .before .before .before .before .before .before .before .before .pre .1) (c .before .before .before .before .before .before .before .before .before .before .before .before .before .before .before .before .before .before .before .pre .0 .0 .few-blocks) _ _ _ _ _ _ (c .before .before .before .before .before .before .before .before .loop-test .taken) (c .before .before .before .before .before .before .before .before .before .loop .inv .3) (c .before .before .before .before .before .round .ensures) (c .if1 .taken)
 
--- src/row.rt:143:9
 add-done : tie.Need-add-done Inv-loop μ-loop
-add-done c = ?
+add-done c = search needs
 
--- src/row.rt:139:5
 loop-less : tie.Need-loop-less Inv-loop μ-loop
-loop-less c = ?
+loop-less c = search needs
 
--- src/row.rt:139:5
 loop-again : tie.Need-loop-again Inv-loop μ-loop
-loop-again c = ?
+loop-again c = let f = filling-turn _ _ _ (limits _ _ _ _ _ _ (c .before .before .before .before .before .before .before .before .before .before .before .before .before .before .before .before .before .before .before .pre .0 .0) (c .before .before .before .before .before .before .before .before .before .before .before .before .before .before .before .before .before .before .before .pre .0 .1)) (c .before .before .before .before .before .before .before .before .before .before .before .before .before .before .before .before .before .before .before .pre .0 .2) (c .before .before .before .before .before .before .before .before .before .before .before .before .before .before .before .before .before .before .before .pre .1) (c .before .before .before .before .before .before .before .before .before .before .before .before .before .before .before .before .before .before .before .pre .0 .0 .few-blocks) _ _ _ _ _ _ (c .before .before .before .before .before .before .before .before .loop-test .taken) (c .before .before .before .before .before .before .before .before .before .loop .inv .3) (c .before .before .before .before .before .round .ensures) in
+    (search needs, f .row .ws-long, f .row .ds-long, f)
 
--- src/row.rt:130:1
 same-length-3 : tie.Need-same-length-3 Inv-loop μ-loop
-same-length-3 c = ?
+same-length-3 c = c .before .loop .inv .1 ∙ sym (c .before .before .before .before .before .before .before .before .before .before .before .pre .0 .3)
 
--- src/row.rt:130:1
 same-length-4 : tie.Need-same-length-4 Inv-loop μ-loop
-same-length-4 c = ?
+same-length-4 c = c .before .loop .inv .2 ∙ sym (c .before .before .before .before .before .before .before .before .before .before .before .pre .0 .4)
 
--- src/row.rt:130:1
 returns-2 : tie.Need-returns-2 Inv-loop μ-loop
-returns-2 c = ?
+returns-2 c = filling-ends _ _ _ (limits _ _ _ _ _ _ (c .before .before .before .before .before .before .before .before .before .before .before .pre .0 .0) (c .before .before .before .before .before .before .before .before .before .before .before .pre .0 .1)) (c .before .before .before .before .before .before .before .before .before .before .before .pre .0 .2) (c .before .before .before .before .before .before .before .before .before .before .before .pre .1) (c .before .before .before .before .before .before .before .before .before .before .before .pre .0 .0 .few-blocks) _ _ _ (omega arith) (omega arith) (c .before .loop .inv .3)
 
 pub fill-row-spec : {M : Type 1} → statement M
 fill-row-spec =
@@ -79,10 +59,7 @@ fill-row-spec =
     (tie.spec
     Inv-loop
     μ-loop
-    blank-requires
-    put-requires
-    delay-at-requires
-    put-requires-2
+    clear-requires
     loop-holds
     round-requires
     same-length
