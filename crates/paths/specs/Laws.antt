@@ -7,3 +7,5 @@ pub mod Loops
 pub mod Rows
 pub mod Relax
 pub mod Filling
+pub mod Parts
+pub mod Tables

@@ -3,4 +3,5 @@ pub mod Table
 pub mod Lists
 pub mod Loops
 pub mod Row
+pub mod Questions
 pub mod Laws

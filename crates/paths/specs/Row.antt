@@ -10,6 +10,7 @@ use lib.ListN.{length, getD, set}
 use Rattle.sheet.specs.Core.{Shape}
 use Rattle.paths.specs.Lists.{held}
 use Rattle.paths.specs.Table.{Way, Entry}
+use Rattle.paths.specs.Questions.{KeptFrom}
 use Rattle.paths.specs.Laws.Ahead.{Ahead}
 
 -- where a wire out of block f starts: at the bare start block u, (0, its delay), or at what the row holds for f
@@ -72,3 +73,9 @@ module _ (s : Shape) (w : ℕ → ℕ) (u : ℕ) where
 abbrev pub Preferred : ℕ → ℕ → ℕ → ℕ → Bool → Type 0
 Preferred x y W D true = Ahead x y W D
 Preferred x y W D false = Ahead W D x y
+
+-- tables whose rows below u are right; from entry n² on both lists are as they were
+pub record Rows (s : Shape) (w : ℕ → ℕ) (u : ℕ) (ws₀ ds₀ ws ds : List ℕ) : Type 0 where
+  pub entry : (x v : ℕ) → x < u → v < s .n → Entry s w x v (getD ws (x * s .n + v) 0) (getD ds (x * s .n + v) 0)
+  pub ws-kept : KeptFrom (s .n * s .n) ws₀ ws
+  pub ds-kept : KeptFrom (s .n * s .n) ds₀ ds

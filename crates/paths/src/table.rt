@@ -1,0 +1,23 @@
+// The path table, row after row.
+ghost use mathlib.Core.Path.{_≡_};
+ghost use Prim.Native.Nat.{ℕ, _*_, _≤_};
+ghost use lib.ListN.{length};
+ghost use Rattle.paths.specs.Lists.{held, listShape, Wires, Delays};
+ghost use Rattle.paths.specs.Table.{LoopAt};
+ghost use Rattle.paths.specs.Row.{Rows};
+use crate::row::fill_row;
+
+// Each starting block's row is lent on as a mutable part of the two tables and filled.
+pub fn fill_table(n: usize, m: usize, delays: &[u32; 64], from: &[usize; 256], to: &[usize; 256], registers: &[u32; 256], ws: &mut [u32], ds: &mut [u32])
+    requires { ⌜ Wires n m (now from) (now to) (now registers) × Delays n (now delays) × (n * n ≤ length (now ws)) × (n * n ≤ length (now ds)) ⌝ }
+    requires { ⌜ ((b : ℕ) → LoopAt (listShape n m (now delays) (now from) (now to)) (held (now registers)) b → ⊥) ⌝ }
+    ensures { λ _. ⌜ Rows (listShape n m (now (delays .entry)) (now (from .entry)) (now (to .entry))) (held (now (registers .entry))) n (now (ws .entry)) (now (ds .entry)) (now (ws .exit)) (now (ds .exit)) ⌝ }
+{
+    let mut u: usize = 0;
+    while u < n {
+        let a = u * n;
+        let e = a + n;
+        fill_row(n, m, delays, from, to, registers, u, &mut ws[a..e], &mut ds[a..e]);
+        u += 1;
+    }
+}
