@@ -4,6 +4,8 @@ pub mod Pigeons
 pub mod Ahead
 pub mod Simple
 pub mod Loops
+pub mod Same
+pub mod Loaded
 pub mod Rows
 pub mod Relax
 pub mod Filling

@@ -27,3 +27,14 @@ pub fn refusal(number: u32, place: usize) -> Answer
         value: 0,
     }
 }
+
+// 01: "With answer 0 the value is the period in the two questions that give one, else 0."
+pub fn done(value: u32) -> Answer
+    ensures { λ r. ⌜ r ≡ answer 0 0 value ⌝ }
+{
+    Answer {
+        number: 0,
+        place: 0,
+        value,
+    }
+}

@@ -110,3 +110,8 @@ told-true P b h e = subst (Told P) e h
 
 pub told-false : (P : Type 0) (b : Bool) → Told P b → b ≡ false → P → ⊥
 told-false P b h e = subst (Told P) e h
+
+-- a later stage after rules of which none applies
+pub staged-after : (rs ts : List (Rule Answer)) (r : Stage) → None rs → Staged ts r → Staged (rs ++ ts) r
+staged-after rs ts Pass n h = none-both rs ts n h
+staged-after rs ts (Refuse a) n h = first-right rs ts a n h
