@@ -2,10 +2,14 @@
 ghost use mathlib.Core.Path.{_≡_};
 ghost use Prim.Native.Nat.{ℕ, _*_, _≤_};
 ghost use lib.ListN.{length};
+ghost use Rattle.sheet.specs.Core.{blocksIn, wiresIn, registersIn, shapeOf};
+ghost use Rattle.sheet.specs.Sheet.{FormedSheet};
 ghost use Rattle.paths.specs.Lists.{held, listShape, Wires, Delays};
 ghost use Rattle.paths.specs.Table.{LoopAt};
 ghost use Rattle.paths.specs.Row.{Rows};
 use crate::row::fill_row;
+use sheet::load::load_delays;
+use sheet::load::load_wires;
 
 // Each starting block's row is lent on as a mutable part of the two tables and filled.
 pub fn fill_table(n: usize, m: usize, delays: &[u32; 64], from: &[usize; 256], to: &[usize; 256], registers: &[u32; 256], ws: &mut [u32], ds: &mut [u32])
@@ -20,4 +24,19 @@ pub fn fill_table(n: usize, m: usize, delays: &[u32; 64], from: &[usize; 256], t
         fill_row(n, m, delays, from, to, registers, u, &mut ws[a..e], &mut ds[a..e]);
         u += 1;
     }
+}
+
+// The table of a sound sheet, over the first n² entries of both lists.
+pub fn write_table(s: &[u8], n: usize, m: usize, ws: &mut [u32], ds: &mut [u32])
+    requires { ⌜ FormedSheet (now s) × (n ≡ blocksIn (now s)) × (m ≡ wiresIn (now s)) × (n * n ≤ length (now ws)) × (n * n ≤ length (now ds)) ⌝ }
+    requires { ⌜ ((b : ℕ) → LoopAt (shapeOf (now s)) (registersIn (now s)) b → ⊥) ⌝ }
+    ensures { λ _. ⌜ Rows (shapeOf (now (s .entry))) (registersIn (now (s .entry))) n (now (ws .entry)) (now (ds .entry)) (now (ws .exit)) (now (ds .exit)) ⌝ }
+{
+    let mut from = [0usize; 256];
+    let mut to = [0usize; 256];
+    let mut registers = [0u32; 256];
+    let mut delays = [0u32; 64];
+    load_wires(s, n, m, &mut from, &mut to, &mut registers);
+    load_delays(s, n, &mut delays);
+    fill_table(n, m, &delays, &from, &to, &registers, ws, ds);
 }

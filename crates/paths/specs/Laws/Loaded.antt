@@ -75,3 +75,21 @@ module _ (s : List ℕ) (f : FormedSheet s) (n m : ℕ) (n-is : n ≡ blocksIn s
 
     pub delays-same : (from to : List ℕ) → SameDelays (listShape n m delays from to) (shapeOf s)
     delays-same from to = delay-at
+
+-- ---- all four lists at once
+pub record Loaded (s : List ℕ) (n m : ℕ) (delays from to registers : List ℕ) : Type 0 where
+  pub wires : Wires n m from to registers
+  pub delays-in : Delays n delays
+  pub same : SameWires (listShape n m delays from to) (shapeOf s) (held registers) (registersIn s)
+  pub same-delays : SameDelays (listShape n m delays from to) (shapeOf s)
+
+pub loaded : (s : List ℕ) → FormedSheet s → (n m : ℕ) → n ≡ blocksIn s → m ≡ wiresIn s → (from₀ to₀ registers₀ delays₀ from to registers delays : List ℕ)
+    → length from₀ ≡ 256 → length to₀ ≡ 256 → length registers₀ ≡ 256 → length delays₀ ≡ 64
+    → (from ≡ filled (fromIn s) m from₀) × (to ≡ filled (toIn s) m to₀) × (registers ≡ filled (registersIn s) m registers₀) → delays ≡ filled (delayIn s) n delays₀
+    → Loaded s n m delays from to registers
+loaded s f n m p q from₀ to₀ registers₀ delays₀ from to registers delays fl tl rl dl ws ds = record {
+  wires = wires-held s f n m p q from₀ to₀ registers₀ from to registers fl tl rl (ws .0) (ws .1) (ws .2);
+  delays-in = delays-held s f n m p q delays₀ delays dl ds;
+  same = wires-same s f n m p q from₀ to₀ registers₀ from to registers fl tl rl (ws .0) (ws .1) (ws .2) delays;
+  same-delays = delays-same s f n m p q delays₀ delays dl ds from to;
+}

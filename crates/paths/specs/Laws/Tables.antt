@@ -10,6 +10,7 @@ use Rattle.sheet.specs.Core.{Shape}
 use Rattle.paths.specs.Table.{Entry, Table}
 use Rattle.paths.specs.Questions.{KeptFrom}
 use Rattle.paths.specs.Row.{RowRight, Rows}
+use Rattle.paths.specs.Laws.Same.{SameWires, SameDelays, entry-same}
 use Rattle.paths.specs.Laws.Parts.{row-before, back, length-back, before-part, within-part, after-part}
 
 pub kept-all : (k : ℕ) (l : List ℕ) → KeptFrom k l l
@@ -66,3 +67,11 @@ module _ (s : Shape) (w : ℕ → ℕ) where
         ws-kept = kept-back ws ys ws-long (y .ws-long) ws₀ (r .ws-kept);
         ds-kept = kept-back ds zs ds-long (y .ds-long) ds₀ (r .ds-kept);
       }
+
+-- ---- the same table of another shape that agrees
+pub rows-same : {s t : Shape} {w x : ℕ → ℕ} {ws₀ ds₀ ws ds : List ℕ} (u : ℕ) → SameWires s t w x → SameDelays s t → Rows s w u ws₀ ds₀ ws ds → Rows t x u ws₀ ds₀ ws ds
+rows-same {s} {t} {w} {x} {ws₀} {ds₀} {ws} {ds} u e d r = record {
+  entry = λ a v h k. subst (λ (n : ℕ). Entry t x a v (getD ws (a * n + v) 0) (getD ds (a * n + v) 0)) (e .n-is) (entry-same e d a v _ _ (r .entry a v h (omega (arith, e .n-is))));
+  ws-kept = subst (λ (n : ℕ). KeptFrom (n * n) ws₀ ws) (e .n-is) (r .ws-kept);
+  ds-kept = subst (λ (n : ℕ). KeptFrom (n * n) ds₀ ds) (e .n-is) (r .ds-kept);
+}
