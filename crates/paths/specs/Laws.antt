@@ -11,3 +11,4 @@ pub mod Relax
 pub mod Filling
 pub mod Parts
 pub mod Tables
+pub mod Questions

@@ -22,11 +22,11 @@ abbrev pub roomRules : ℕ → ℕ → ℕ → ℕ → List (Rule Answer)
 roomRules first needed second needed₂ = refusal (first < needed) (answer 4 0 0) ∷ refusal (second < needed₂) (answer 4 1 0) ∷ []
 
 -- ---- check a sheet: 0 "done", place 0, and "nothing more"
-abbrev pub checkRules : List ℕ → List (Rule Answer)
-checkRules s = frameRules s ++ (soundRules s ++ (refusal Unit (answer 0 0 0) ∷ []))
+abbrev pub afterFrame : List ℕ → List (Rule Answer)
+afterFrame s = soundRules s ++ (refusal Unit (answer 0 0 0) ∷ [])
 
 abbrev pub CheckRight : List ℕ → Answer → Type 0
-CheckRight s a = First (checkRules s) a
+CheckRight s a = First (frameRules s ++ afterFrame s) a
 
 -- ---- path table: the answer, and both lent lists after it
 pub record TableOutcome : Type 0 where
@@ -50,12 +50,11 @@ pub record TableDone (s r d : List ℕ) (o : TableOutcome) : Type 0 where
   pub delays-kept : KeptFrom (blocksIn s * blocksIn s) d (o .delays)
 
 -- 01: "Lists needed: path table, n² entries in each (registers first, delays second)"; "A refusal writes nothing"
-abbrev pub tableRules : List ℕ → List ℕ → List ℕ → List (Rule TableOutcome)
-tableRules s r d =
-    stage (λ a. tableOutcome a r d) (frameRules s)
-    ++ (stage (λ a. tableOutcome a r d) (roomRules (length r) (blocksIn s * blocksIn s) (length d) (blocksIn s * blocksIn s))
+abbrev pub tableAfterFrame : List ℕ → List ℕ → List ℕ → List (Rule TableOutcome)
+tableAfterFrame s r d =
+    stage (λ a. tableOutcome a r d) (roomRules (length r) (blocksIn s * blocksIn s) (length d) (blocksIn s * blocksIn s))
     ++ (stage (λ a. tableOutcome a r d) (soundRules s)
-    ++ (record { when = Unit; gives = TableDone s r d } ∷ [])))
+    ++ (record { when = Unit; gives = TableDone s r d } ∷ []))
 
 abbrev pub TableRight : List ℕ → List ℕ → List ℕ → TableOutcome → Type 0
-TableRight s r d o = First (tableRules s r d) o
+TableRight s r d o = First (stage (λ a. tableOutcome a r d) (frameRules s) ++ tableAfterFrame s r d) o

@@ -75,7 +75,18 @@ fn better(x: u32, y: u32, w: u32, d: u32) -> bool
 }
 
 // Tries wire j on the row of block u: true where it improved the block that it leads to.
-fn relax(n: usize, m: usize, delays: &[u32; 64], from: &[usize; 256], to: &[usize; 256], registers: &[u32; 256], u: usize, j: usize, ws: &mut [u32], ds: &mut [u32]) -> bool
+fn relax(
+    n: usize,
+    m: usize,
+    delays: &[u32; 64],
+    from: &[usize; 256],
+    to: &[usize; 256],
+    registers: &[u32; 256],
+    u: usize,
+    j: usize,
+    ws: &mut [u32],
+    ds: &mut [u32],
+) -> bool
     requires { ⌜ Wires n m (now from) (now to) (now registers) × Delays n (now delays) × (u < n) × (j < m) ⌝ }
     requires { ⌜ Row (listShape n m (now delays) (now from) (now to)) (held (now registers)) u 16384 (now ws) (now ds) ⌝ }
     ensures { λ r. ⌜ Relaxed (listShape n m (now (delays .entry)) (now (from .entry)) (now (to .entry))) (held (now (registers .entry))) u j (now (ws .entry)) (now (ds .entry)) (now (ws .exit)) (now (ds .exit)) r ⌝ }
@@ -97,7 +108,18 @@ fn relax(n: usize, m: usize, delays: &[u32; 64], from: &[usize; 256], to: &[usiz
 }
 
 // One round over all wires: the number of improvements. `done` counts the rounds before it and bounds the row's numbers.
-fn round(n: usize, m: usize, delays: &[u32; 64], from: &[usize; 256], to: &[usize; 256], registers: &[u32; 256], u: usize, done: usize, ws: &mut [u32], ds: &mut [u32]) -> usize
+fn round(
+    n: usize,
+    m: usize,
+    delays: &[u32; 64],
+    from: &[usize; 256],
+    to: &[usize; 256],
+    registers: &[u32; 256],
+    u: usize,
+    done: usize,
+    ws: &mut [u32],
+    ds: &mut [u32],
+) -> usize
     requires { ⌜ Wires n m (now from) (now to) (now registers) × Delays n (now delays) × (u < n) × (done < 64) ⌝ }
     requires { ⌜ Row (listShape n m (now delays) (now from) (now to)) (held (now registers)) u (256 * done) (now ws) (now ds) ⌝ }
     ensures { λ r. ⌜ Rounded (listShape n m (now (delays .entry)) (now (from .entry)) (now (to .entry))) (held (now (registers .entry))) u (256 * done + 256) (now (ws .entry)) (now (ds .entry)) (now (ws .exit)) (now (ds .exit)) r ⌝ }
@@ -137,7 +159,17 @@ fn clear(n: usize, delays: &[u32; 64], u: usize, ws: &mut [u32], ds: &mut [u32])
 }
 
 // The row of block u: at most n rounds from the bare start block.
-pub fn fill_row(n: usize, m: usize, delays: &[u32; 64], from: &[usize; 256], to: &[usize; 256], registers: &[u32; 256], u: usize, ws: &mut [u32], ds: &mut [u32])
+pub fn fill_row(
+    n: usize,
+    m: usize,
+    delays: &[u32; 64],
+    from: &[usize; 256],
+    to: &[usize; 256],
+    registers: &[u32; 256],
+    u: usize,
+    ws: &mut [u32],
+    ds: &mut [u32],
+)
     requires { ⌜ Wires n m (now from) (now to) (now registers) × Delays n (now delays) × (u < n) × (length (now ws) ≡ n) × (length (now ds) ≡ n) ⌝ }
     requires { ⌜ ((b : ℕ) → LoopAt (listShape n m (now delays) (now from) (now to)) (held (now registers)) b → ⊥) ⌝ }
     ensures { λ _. ⌜ RowRight (listShape n m (now (delays .entry)) (now (from .entry)) (now (to .entry))) (held (now (registers .entry))) u (now (ws .exit)) (now (ds .exit)) ⌝ }

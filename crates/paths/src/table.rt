@@ -12,7 +12,16 @@ use sheet::load::load_delays;
 use sheet::load::load_wires;
 
 // Each starting block's row is lent on as a mutable part of the two tables and filled.
-pub fn fill_table(n: usize, m: usize, delays: &[u32; 64], from: &[usize; 256], to: &[usize; 256], registers: &[u32; 256], ws: &mut [u32], ds: &mut [u32])
+pub fn fill_table(
+    n: usize,
+    m: usize,
+    delays: &[u32; 64],
+    from: &[usize; 256],
+    to: &[usize; 256],
+    registers: &[u32; 256],
+    ws: &mut [u32],
+    ds: &mut [u32],
+)
     requires { ⌜ Wires n m (now from) (now to) (now registers) × Delays n (now delays) × (n * n ≤ length (now ws)) × (n * n ≤ length (now ds)) ⌝ }
     requires { ⌜ ((b : ℕ) → LoopAt (listShape n m (now delays) (now from) (now to)) (held (now registers)) b → ⊥) ⌝ }
     ensures { λ _. ⌜ Rows (listShape n m (now (delays .entry)) (now (from .entry)) (now (to .entry))) (held (now (registers .entry))) n (now (ws .entry)) (now (ds .entry)) (now (ws .exit)) (now (ds .exit)) ⌝ }
@@ -21,7 +30,17 @@ pub fn fill_table(n: usize, m: usize, delays: &[u32; 64], from: &[usize; 256], t
     while u < n {
         let a = u * n;
         let e = a + n;
-        fill_row(n, m, delays, from, to, registers, u, &mut ws[a..e], &mut ds[a..e]);
+        fill_row(
+            n,
+            m,
+            delays,
+            from,
+            to,
+            registers,
+            u,
+            &mut ws[a..e],
+            &mut ds[a..e],
+        );
         u += 1;
     }
 }

@@ -4,7 +4,7 @@ use mathlib.Core.Path.{_≡_, refl, sym, ap, _∙_}
 use mathlib.Core.List.{List, _++_}
 use Prim.Native.Nat.{ℕ, suc, _+_, _*_, _-_, _≤_, _<_}
 use native.Mathlib.Omega.{arith}
-use native.Mathlib.Nat.{suc-mul, mul-le-mul-right}
+use native.Mathlib.Nat.{suc-mul, mul-le-mul-right, mul-le-mul}
 use lib.ListN.{length, getD, take, drop, length-append, length-drop, List·getD-append}
 use lib.Seq.{length-take-le, getD-take, getD-drop, getD-append-add}
 
@@ -53,3 +53,7 @@ module _ (xs ys : List ℕ) (a k : ℕ) (h : a + k ≤ length xs) (y : length ys
       ∙ getD-drop k (drop a xs) j 0
       ∙ getD-drop a xs (k + j) 0
       ∙ ap (λ (x : ℕ). getD xs x 0) (sym e)
+
+-- a table has at most 64 rows of 64
+pub square-small : (n : ℕ) → n ≤ 64 → n * n ≤ 4096
+square-small n h = mul-le-mul h h

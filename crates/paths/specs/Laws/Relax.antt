@@ -75,7 +75,7 @@ module _ (s : Shape) (w : ℕ → ℕ) (u : ℕ) (g : Limits s w) (u-lt : u < s 
       ds-long = ap length (r .3) ∙ simp length-set (row .ds-long);
       real = improved r (λ (v a b : ℕ). v < s .n → a < 4294967295 → Way s w u v a b)
           (λ _ _. way-more s w u (s .from j) _ _ j
-              (base-way s w u k ws ds row u-lt (s .from j) (g .from-block j j-lt) (r .0) (ℕ-discrete (s .from j) u)) j-lt refl t-lt)
+          (base-way s w u k ws ds row u-lt (s .from j) (g .from-block j j-lt) (r .0) (ℕ-discrete (s .from j) u)) j-lt refl t-lt)
           (row .real);
       blank = improved r (λ (v a b : ℕ). v < s .n → (a < 4294967295) ⊎ ((a ≡ 4294967295) × (b ≡ 0)))
           (λ _. inl (omega (arith, offer-few (r .0))))

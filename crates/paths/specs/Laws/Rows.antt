@@ -122,10 +122,10 @@ module _ (s : Shape) (w : ℕ → ℕ) (u : ℕ) (free : (b : ℕ) → LoopAt s 
         let q = joins-ends s u xs j v h in
         let n : length xs ≤ k = omega (arith, length-append xs (j ∷ [])) in
         let a : Ahead (W′ (s .to j)) (D′ (s .to j)) (registersOn w xs + w j) (delayOn s u xs + s .delay (s .to j)) =
-            elim (ℕ-discrete (s .from j) u) [
-              | yes e ↦ last-start xs j (q .rest) (q .wire) (q .between) e
-              | no e ↦ last-other xs j (q .rest) (q .wire) n e
-            ] in
+        elim (ℕ-discrete (s .from j) u) [
+          | yes e ↦ last-start xs j (q .rest) (q .wire) (q .between) e
+          | no e ↦ last-other xs j (q .rest) (q .wire) n e
+        ] in
         rw (← (q .end)) (ahead-as _ _ (registers-snoc w xs j) (delay-snoc s u xs j) a)
 
     pub covers-next : Covers s w u (k + 1) W′ D′

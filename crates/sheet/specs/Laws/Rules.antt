@@ -45,6 +45,14 @@ module _ {A : Type 0} where
   none-both [] ts n k = k
   none-both (r ∷ rs) ts n k = (n .0, none-both rs ts (n .1) k)
 
+  pub none-left : (rs ts : List (Rule A)) → None (rs ++ ts) → None rs
+  none-left [] ts n = tt
+  none-left (r ∷ rs) ts n = (n .0, none-left rs ts (n .1))
+
+  pub none-right : (rs ts : List (Rule A)) → None (rs ++ ts) → None ts
+  none-right [] ts n = n
+  none-right (r ∷ rs) ts n = none-right rs ts (n .1)
+
   -- ---- a stage of answers as a stage of a question
   module _ (keep : Answer → A) where
     pub stage-exact : (rs : List (Rule Answer)) → Exact rs → Exact (stage keep rs)

@@ -16,7 +16,7 @@ use Rattle.sheet.specs.Bytes.{Bytes, u16At}
 use Rattle.sheet.specs.Core.{coreOf, wireAt, blocksIn, wiresIn, delayIn, lowerIn, upperIn, fromIn, toIn, registersIn, spareIn}
 use Rattle.sheet.specs.Rules.{First, None, FirstOf, firstPlace, answer}
 use Rattle.sheet.specs.Sheet.{LagLimits, BlockRule, WireRule, BlockGood, WireGood, frameRules, entryRules, Offsets, Framed, FormedSheet, Formed}
-use Rattle.sheet.specs.Reads.{ExcessIs, BlockNumbers, BlockOf, BlockGiven, BlockIs, WireIs, WireOf, WireGiven}
+use Rattle.sheet.specs.Reads.{ExcessIs, BlockNumbers, BlockOf, BlockGiven, BlockIs, WireIs, WireOf, WireGiven, FrameGiven}
 use Rattle.sheet.specs.Laws.Integer.{up, down, le-parts, parts-le, parts-eq, minus}
 use Rattle.sheet.specs.Laws.Lag.{excess-parts, mag-bits, excess-bits}
 use Rattle.sheet.specs.Laws.Bytes.{u16-below}
@@ -25,6 +25,9 @@ use Rattle.sheet.specs.declared.block.BlockRead.{BlockRead}
 use Rattle.sheet.specs.declared.block.BlockRead.the-variants as B
 use Rattle.sheet.specs.declared.wire.WireRead.{WireRead}
 use Rattle.sheet.specs.declared.wire.WireRead.the-variants as W
+use Rattle.sheet.specs.declared.answer.Answer.{Answer}
+use Rattle.sheet.specs.declared.frame.Frame.{Frame}
+use Rattle.sheet.specs.declared.frame.Frame.the-variants as F
 
 -- ---- the block rule on excess numbers
 limits-fit : (z : ℤ) → LagLimits z → mag z < 32768
@@ -109,6 +112,12 @@ module _ (s : List ℕ) (i : ℕ) where
 
   pub wire-refused : (r : WireRead) (k : ℕ) → WireGiven s i r → r ≡ W.Refused k → WireGood s i → ⊥
   wire-refused r k h e = subst (WireGiven s i) e h .1
+
+pub frame-read : (s : List ℕ) (r : Frame) (n m : ℕ) → FrameGiven s r → r ≡ F.Counts n m → (n ≡ blocksIn s) × (m ≡ wiresIn s) × Framed s
+frame-read s r n m h e = subst (FrameGiven s) e h
+
+pub frame-refused : (s : List ℕ) (r : Frame) (a : Answer) → FrameGiven s r → r ≡ F.Refused a → First (frameRules s) a
+frame-refused s r a h e = subst (FrameGiven s) e h
 
 -- ---- the frame's refusals, one by one
 module _ (s : List ℕ) where
