@@ -11,4 +11,5 @@ pub mod Relax
 pub mod Filling
 pub mod Parts
 pub mod Tables
+pub mod Entry
 pub mod Questions

@@ -28,19 +28,22 @@ module _ (s : Shape) where
   abbrev pub passed : List ℕ → List ℕ
   passed ws = map (s .to) ws
 
-  passed-below : (u : ℕ) (ws : List ℕ) (v : ℕ) → Joins s u ws v → AllBelow (s .n) (passed ws)
+  pub length-passed : (ws : List ℕ) → length (passed ws) ≡ length ws
+  length-passed ws = length-map ws (s .to)
+
+  pub passed-below : (u : ℕ) (ws : List ℕ) (v : ℕ) → Joins s u ws v → AllBelow (s .n) (passed ws)
   passed-below u [] v h = tt
   passed-below u (j ∷ ws) v h = (joins-start-lt s (s .to j) ws v (h .4), passed-below (s .to j) ws v (h .4))
 
   -- some wire of ws leads to x
-  record Leads (x : ℕ) (ws : List ℕ) : Type 0 where
-    before : List ℕ
-    wire : ℕ
-    after : List ℕ
-    parts : ws ≡ before ++ (wire ∷ after)
-    here : s .to wire ≡ x
+  pub record Leads (x : ℕ) (ws : List ℕ) : Type 0 where
+    pub before : List ℕ
+    pub wire : ℕ
+    pub after : List ℕ
+    pub parts : ws ≡ before ++ (wire ∷ after)
+    pub here : s .to wire ≡ x
 
-  leads : (x : ℕ) (ws : List ℕ) → NotIn x (passed ws) ⊎ Leads x ws
+  pub leads : (x : ℕ) (ws : List ℕ) → NotIn x (passed ws) ⊎ Leads x ws
   leads x [] = inl tt
   leads x (j ∷ ws) = go (ℕ-discrete (s .to j) x) (leads x ws)
     where
@@ -90,7 +93,7 @@ module _ (s : Shape) where
       })
 
   pub simple-short : (u : ℕ) (ws : List ℕ) (v : ℕ) → Joins s u ws v → NoDup (passed ws) → length ws ≤ s .n
-  simple-short u ws v h d = omega (arith, length-map ws (s .to), pigeons (s .n) (passed ws) d (passed-below u ws v h))
+  simple-short u ws v h d = omega (arith, length-passed ws, pigeons (s .n) (passed ws) d (passed-below u ws v h))
 
 -- ---- the loop is cut out
 module _ (s : Shape) (w : ℕ → ℕ) (u v : ℕ) (ws : List ℕ) (h : Joins s u ws v) (l : Loop s ws) where
