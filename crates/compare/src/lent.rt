@@ -1,0 +1,33 @@
+// The lent lists of u32: what they hold before a call, and whether they still do.
+ghost use Prim.Native.Nat.{_+_, _<_};
+ghost use mathlib.Core.Path.{_≡_};
+ghost use lib.ListN.{length};
+
+// What entry i holds before a call: no answer is so large, so a number that was written shows.
+fn before(i: usize) -> u32
+    requires { ⌜ i < 4200 ⌝ }
+    ensures { λ r. ⌜ r ≡ 3000000000 + i ⌝ }
+{
+    3000000000 + i as u32
+}
+
+// A list to lend, made anew for every call.
+pub fn marked() -> [u32; 4200]
+    ensures { λ r. ⌜ length r ≡ 4200 ⌝ }
+{
+    let mut list = [0u32; 4200];
+    for i in 0..4200usize {
+        list[i] = before(i);
+    }
+    list
+}
+
+// Every entry from `first` on still holds what it held before the call.
+pub fn kept(list: &[u32; 4200], first: usize) -> bool {
+    for i in first..4200usize {
+        if list[i] != before(i) {
+            return false;
+        }
+    }
+    true
+}
