@@ -23,7 +23,7 @@ fn check(out: &mut [u8; 4096], used: &mut usize, sheet: &[u8]) {
     head(out, used, 1, answer);
 }
 
-// How many entries of a list of `length` a table takes: n² where there is room.
+// How many entries of a list of `length` a table takes: n², and never more than there are.
 fn entries(sheet: &[u8], length: usize) -> usize
     ensures { λ r. ⌜ r ≤ length ⌝ }
 {
@@ -37,20 +37,22 @@ fn entries(sheet: &[u8], length: usize) -> usize
     length
 }
 
-// Every entry that no answer writes is what it was, in both lists.
-fn both_kept(registers: &[u32; 4200], delays: &[u32; 4200], r: usize, d: usize) -> bool {
+// Whether both lists, from r and d on, are what they were before the call.
+fn kept_line(
+    out: &mut [u8; 4096],
+    used: &mut usize,
+    registers: &[u32; 4200],
+    delays: &[u32; 4200],
+    r: usize,
+    d: usize,
+) {
     if kept(registers, r) {
-        return kept(delays, d);
+        if kept(delays, d) {
+            text(out, used, b"kept\n");
+            return;
+        }
     }
-    false
-}
-
-fn kept_line(out: &mut [u8; 4096], used: &mut usize, kept: bool) {
-    if kept {
-        text(out, used, b"kept\n");
-    } else {
-        text(out, used, b"changed\n");
-    }
+    text(out, used, b"changed\n");
 }
 
 // The lines after the head: a table where there is one, and whether the rest was kept.
@@ -66,12 +68,12 @@ fn table_lines(
     requires { ⌜ (r ≤ 4200) × (d ≤ 4200) ⌝ }
 {
     if refused {
-        kept_line(out, used, both_kept(registers, delays, 0, 0));
+        kept_line(out, used, registers, delays, 0, 0);
         return;
     }
     list(out, used, b"registers", registers, r);
     list(out, used, b"delays", delays, d);
-    kept_line(out, used, both_kept(registers, delays, r, d));
+    kept_line(out, used, registers, delays, r, d);
 }
 
 fn table(out: &mut [u8; 4096], used: &mut usize, sheet: &[u8], a: usize, b: usize)
@@ -87,7 +89,7 @@ fn table(out: &mut [u8; 4096], used: &mut usize, sheet: &[u8], a: usize, b: usiz
     table_lines(out, used, &registers, &delays, r, d, refused);
 }
 
-// Asks the question with this code, of a sheet, the bytes after it, the lengths a and b and the period c; false where there is none.
+// Asks the question with this code: of the sheet, the bytes after it, the lengths a and b and the period c. False where there is none.
 pub fn question(
     out: &mut [u8; 4096],
     used: &mut usize,

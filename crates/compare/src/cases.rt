@@ -1,5 +1,5 @@
 // The records of a case file, one after another, up to the first that is damaged.
-ghost use Prim.Native.Nat.{_≤_, _<_, _*_};
+ghost use Prim.Native.Nat.{_≤_};
 ghost use lib.ListN.{length};
 use crate::ask::question;
 use crate::out::flush;
@@ -31,6 +31,7 @@ fn record(out: &mut [u8; 4096], used: &mut usize, rest: &[u8]) -> usize
     let code = u16_at(rest, 0);
     let a = u16_at(rest, 4) as usize;
     let b = u16_at(rest, 6) as usize;
+    // no question lends a longer list
     if a > 4200 {
         return 0;
     }
@@ -58,6 +59,7 @@ fn record(out: &mut [u8; 4096], used: &mut usize, rest: &[u8]) -> usize
     0
 }
 
+// Out of the loop, which would carry the text.
 fn damaged(out: &mut [u8; 4096], used: &mut usize) {
     text(out, used, b"bad record\n");
 }

@@ -48,6 +48,7 @@ pub fn list(
     byte(out, used, b'\n');
 }
 
+// Takes a slice: of an array behind a reference no part can be lent.
 fn write_first(bytes: &[u8], count: usize) {
     if count < bytes.len() {
         io::write_all(1, &bytes[..count]);

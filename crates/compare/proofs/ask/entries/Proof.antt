@@ -1,4 +1,4 @@
-use native.Mathlib.Omega.{arith}
+-- The square of a 16-bit number fits.
 use native.Mathlib.Omega.{arith}
 use native.Mathlib.Nat.{mul-le-mul}
 use Prim.Native.Nat.{ℕ, _≤_, _*_}

@@ -1,4 +1,4 @@
-use native.Mathlib.Omega.{arith}
+-- Both parts are within their lists, so each is as long as the record says.
 use native.Mathlib.Omega.{arith}
 use lib.Seq.{length-take-le}
 use mathlib.Core.Path.{sym}

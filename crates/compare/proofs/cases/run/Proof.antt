@@ -1,5 +1,5 @@
+-- Each record leaves fewer bytes.
 use borrow.Author.Needs.{needs}
-use native.Mathlib.Omega.{arith}
 use Prim.Native.Nat.{_-_, _≤_}
 use lib.ListN.{length}
 use Rattle.compare.proofs.cases.run.Statement.{statement}

@@ -1,5 +1,5 @@
+-- Entry after entry, up to the count.
 use borrow.Author.Needs.{needs}
-use native.Mathlib.Omega.{arith}
 use Prim.Native.Nat.{_-_}
 use Rattle.compare.proofs.out.list.Statement.{statement}
 use Rattle.compare.proofs.out.list.Tie as tie

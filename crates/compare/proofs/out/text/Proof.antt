@@ -1,5 +1,5 @@
+-- Byte after byte, up to the end of the line.
 use borrow.Author.Needs.{needs}
-use native.Mathlib.Omega.{arith}
 use Prim.Native.Nat.{_-_}
 use Rattle.compare.proofs.out.text.Statement.{statement}
 use Rattle.compare.proofs.out.text.Tie as tie

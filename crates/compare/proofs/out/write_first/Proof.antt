@@ -1,4 +1,4 @@
-use native.Mathlib.Omega.{arith}
+-- The part that is written is as long as the count.
 use native.Mathlib.Omega.{arith}
 use lib.Seq.{length-take-le}
 use mathlib.Core.Path.{sym}
