@@ -1,0 +1,114 @@
+// The questions: for each a function that asks it and writes its lines, and a branch in `question`.
+ghost use Prim.Native.Nat.{_≤_};
+use crate::lent::kept;
+use crate::lent::marked;
+use crate::out::byte;
+use crate::out::list;
+use crate::out::next_number;
+use crate::out::number;
+use crate::out::text;
+use sheet::answer::Answer;
+
+// The line that every question begins with.
+fn head(out: &mut [u8; 4096], used: &mut usize, code: u32, answer: Answer) {
+    number(out, used, code);
+    next_number(out, used, answer.number);
+    next_number(out, used, answer.place);
+    next_number(out, used, answer.value);
+    byte(out, used, b'\n');
+}
+
+fn check(out: &mut [u8; 4096], used: &mut usize, sheet: &[u8]) {
+    let answer = paths::check(sheet);
+    head(out, used, 1, answer);
+}
+
+// How many entries of a list of `length` a table takes: n², and never more than there are.
+fn entries(sheet: &[u8], length: usize) -> usize
+    ensures { λ r. ⌜ r ≤ length ⌝ }
+{
+    if sheet.len() < 2 {
+        return 0;
+    }
+    let n = sheet::bytes::u16_at(sheet, 0) as usize;
+    if n * n < length {
+        return n * n;
+    }
+    length
+}
+
+// Whether both lists, from r and d on, are what they were before the call.
+fn kept_line(
+    out: &mut [u8; 4096],
+    used: &mut usize,
+    registers: &[u32; 4200],
+    delays: &[u32; 4200],
+    r: usize,
+    d: usize,
+) {
+    if kept(registers, r) {
+        if kept(delays, d) {
+            text(out, used, b"kept\n");
+            return;
+        }
+    }
+    text(out, used, b"changed\n");
+}
+
+// The lines after the head: a table where there is one, and whether the rest was kept.
+fn table_lines(
+    out: &mut [u8; 4096],
+    used: &mut usize,
+    registers: &[u32; 4200],
+    delays: &[u32; 4200],
+    r: usize,
+    d: usize,
+    refused: bool,
+)
+    requires { ⌜ (r ≤ 4200) × (d ≤ 4200) ⌝ }
+{
+    if refused {
+        kept_line(out, used, registers, delays, 0, 0);
+        return;
+    }
+    list(out, used, b"registers", registers, r);
+    list(out, used, b"delays", delays, d);
+    kept_line(out, used, registers, delays, r, d);
+}
+
+fn table(out: &mut [u8; 4096], used: &mut usize, sheet: &[u8], a: usize, b: usize)
+    requires { ⌜ (a ≤ 4200) × (b ≤ 4200) ⌝ }
+{
+    let mut registers = marked();
+    let mut delays = marked();
+    let answer = paths::path_table(sheet, &mut registers[..a], &mut delays[..b]);
+    let refused = answer.number != 0;
+    head(out, used, 3, answer);
+    let r = entries(sheet, a);
+    let d = entries(sheet, b);
+    table_lines(out, used, &registers, &delays, r, d, refused);
+}
+
+// Asks the question with this code: of the sheet, the bytes after it, the lengths a and b and the period c. False where there is none.
+pub fn question(
+    out: &mut [u8; 4096],
+    used: &mut usize,
+    code: u32,
+    sheet: &[u8],
+    more: &[u8],
+    a: usize,
+    b: usize,
+    c: u32,
+) -> bool
+    requires { ⌜ (a ≤ 4200) × (b ≤ 4200) ⌝ }
+{
+    if code == 1 {
+        check(out, used, sheet);
+        return true;
+    }
+    if code == 3 {
+        table(out, used, sheet, a, b);
+        return true;
+    }
+    false
+}

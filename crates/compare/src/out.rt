@@ -1,0 +1,63 @@
+// Text for standard output, gathered in a buffer: one write for each 4,096 bytes and not one for each number.
+ghost use Prim.Native.Nat.{_≤_};
+
+pub fn byte(out: &mut [u8; 4096], used: &mut usize, x: u8) {
+    let at = *used;
+    if at < 4096 {
+        out[at] = x;
+        *used = at + 1;
+        return;
+    }
+    io::write_all(1, out);
+    out[0] = x;
+    *used = 1;
+}
+
+pub fn text(out: &mut [u8; 4096], used: &mut usize, line: &[u8]) {
+    for i in 0..line.len() {
+        byte(out, used, line[i]);
+    }
+}
+
+pub fn number(out: &mut [u8; 4096], used: &mut usize, x: u32) {
+    let mut digits = [0u8; 20];
+    let k = io::decimal(x as u64, &mut digits);
+    text(out, used, &digits[..k]);
+}
+
+// A space and the number: every number but a line's first.
+pub fn next_number(out: &mut [u8; 4096], used: &mut usize, x: u32) {
+    byte(out, used, b' ');
+    number(out, used, x);
+}
+
+// A line with a name and the first `count` entries of a list.
+pub fn list(
+    out: &mut [u8; 4096],
+    used: &mut usize,
+    name: &[u8],
+    entries: &[u32; 4200],
+    count: usize,
+)
+    requires { ⌜ count ≤ 4200 ⌝ }
+{
+    text(out, used, name);
+    for i in 0..count {
+        next_number(out, used, entries[i]);
+    }
+    byte(out, used, b'\n');
+}
+
+// Takes a slice: of an array behind a reference no part can be lent.
+fn write_first(bytes: &[u8], count: usize) {
+    if count < bytes.len() {
+        io::write_all(1, &bytes[..count]);
+    } else {
+        io::write_all(1, bytes);
+    }
+}
+
+// Writes what is left in the buffer.
+pub fn flush(out: &[u8; 4096], used: usize) {
+    write_first(out, used);
+}
