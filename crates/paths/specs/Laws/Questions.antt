@@ -5,6 +5,9 @@ use mathlib.Core.Logic.{inl, inr}
 use mathlib.Core.List.{List, [], _∷_, _++_}
 use Prim.Native.Nat.{ℕ, _+_, _*_, _/_, _%_, _≤_, _<_}
 use native.Mathlib.Omega.{arith}
+use native.Mathlib.Nat.{div-add-mod', div-lt-iff-lt-mul, mod-lt}
+use native.Mathlib.Decide.{ℕ-discrete, decLt}
+use lib.Seq.{ext-getD}
 use lib.ListN.{length, getD}
 use Rattle.sheet.specs.Core.{blocksIn, registersIn, shapeOf}
 use Rattle.sheet.specs.Rules.{Rule, First, None, Exact, answer, refusal, stage}
@@ -17,6 +20,7 @@ use Rattle.paths.specs.Table.{LoopAt, Table}
 use Rattle.paths.specs.Row.{Rows}
 use Rattle.paths.specs.Questions.{loopRules, soundRules, roomRules, afterFrame, CheckRight, TableOutcome, tableOutcome, KeptFrom, TableDone, tableAfterFrame, TableRight}
 use Rattle.paths.specs.Laws.Path.{joins-start-lt}
+use Rattle.paths.specs.Laws.Entry.{entry-unique}
 
 module _ (s : List ℕ) where
   -- ---- a sheet to which 5, 6 and 7 do not apply
@@ -98,3 +102,43 @@ module _ (s r d : List ℕ) where
               delays-kept = t .ds-kept;
             },
           )))
+
+  -- ---- two outcomes of one question are one
+  abbrev n : ℕ
+  n = blocksIn s
+
+  -- below n² both hold the table's entry, past it what was there
+  row-of : (i : ℕ) → i < n * n → 0 < n
+  row-of i h = elim (ℕ-discrete n 0) [ yes e ↦ absurd (omega (arith, h, ap (λ (k : ℕ). k * n) e)) | no e ↦ omega arith ]
+
+  module _ (o p : TableOutcome) (a : TableDone s r d o) (b : TableDone s r d p) where
+    same-entry : (i : ℕ) → i < n * n → (getD (o .registers) i 0 ≡ getD (p .registers) i 0) × (getD (o .delays) i 0 ≡ getD (p .delays) i 0)
+    same-entry i h =
+        let pos = row-of i h in
+        let u : ℕ = i / n in
+        let v : ℕ = i % n in
+        let e : u * n + v ≡ i = div-add-mod' i n in
+        let u-lt : u < n = div-lt-iff-lt-mul pos .1 h in
+        let v-lt : v < n = mod-lt i pos in
+        rw (← e) (entry-unique (shapeOf s) (registersIn s) u v _ _ _ _ (a .table u v u-lt v-lt) (b .table u v u-lt v-lt))
+
+    same-list : (x y : List ℕ) (l : List ℕ) → KeptFrom (n * n) l x → KeptFrom (n * n) l y → ((i : ℕ) → i < n * n → getD x i 0 ≡ getD y i 0) → x ≡ y
+    same-list x y l f g h =
+        ext-getD 0 x y (f .long ∙ sym (g .long))
+        (λ i k. elim (decLt i (n * n)) [ yes q ↦ h i q | no q ↦ f .past i (omega arith) ∙ sym (g .past i (omega arith)) ])
+
+    same-outcome : o ≡ p
+    same-outcome =
+        let e = a .says-done ∙ sym (b .says-done) in
+        let f = same-list (o .registers) (p .registers) r (a .registers-kept) (b .registers-kept) (λ i h. same-entry i h .0) in
+        let g = same-list (o .delays) (p .delays) d (a .delays-kept) (b .delays-kept) (λ i h. same-entry i h .1) in
+        ap (λ (x : Answer). tableOutcome x (o .registers) (o .delays)) e
+        ∙ ap (λ (x : List ℕ). tableOutcome (p .says) x (o .delays)) f
+        ∙ ap (λ (x : List ℕ). tableOutcome (p .says) (p .registers) x) g
+
+  pub table-agrees : (o p : TableOutcome) → TableRight s r d o → TableRight s r d p → o ≡ p
+  table-agrees =
+      agree _≡_ (stage keep (frameRules s) ++ tableAfterFrame s r d)
+      (tight-both _≡_ (stage keep (frameRules s)) (tableAfterFrame s r d) (stage-exact keep (frameRules s) (frame-exact s))
+      (tight-both _≡_ (stage keep room) (stage keep (soundRules s) ++ last) (stage-exact keep room (refusal-exact (answer 4 0 0), (refusal-exact (answer 4 1 0), tt)))
+      (tight-both _≡_ (stage keep (soundRules s)) last (stage-exact keep (soundRules s) (sound-exact s)) (same-outcome, tt))))
