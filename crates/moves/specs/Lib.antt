@@ -1,0 +1,2 @@
+pub mod Lags
+pub mod Move

@@ -1,0 +1,1 @@
+// Lags and moves: permitted lags, the moved sheet, what moving leaves unchanged; the question move.
