@@ -1,2 +1,4 @@
 pub mod Lags
 pub mod Move
+pub mod Write
+pub mod Laws
