@@ -1,2 +1,3 @@
 -- Laws about the definitions of specs/, for proofs and for the crates above.
 pub mod Reading
+pub mod Writing

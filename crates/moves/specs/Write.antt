@@ -1,7 +1,8 @@
 -- How the moved sheet is written: inner to this crate. The sheet is copied, then each field that changes is put anew.
 use mathlib.Core.Bool.{Bool, true, false, cond}
+use mathlib.Core.Path.{_≡_}
 use mathlib.Core.List.{List}
-use Prim.Native.Nat.{ℕ, zero, suc, _+_, _*_, _-_, _%_}
+use Prim.Native.Nat.{ℕ, zero, suc, _+_, _*_, _-_, _%_, _≤_}
 use lib.IntN.{ℤ}
 use lib.ListN.{length, getD}
 use Rattle.sheet.specs.Bytes.{put16}
@@ -42,3 +43,13 @@ written s r l =
     (puts (limitsFrom true) (limitBits s r true) (blocksIn s)
     (puts (limitsFrom false) (limitBits s r false) (blocksIn s)
     (copied s l)))
+
+-- what the readers of a limit and of a wire's new registers give
+pub record LimitRead (s : List ℕ) (top : Bool) (b e : ℕ) : Type 0 where
+  pub is : e ≡ excess (limitIn s top b)
+  pub low : 31768 ≤ e
+  pub high : e ≤ 33768
+
+pub record RegistersMoved (s : List ℕ) (r : ℕ → ℤ) (j x : ℕ) : Type 0 where
+  pub is : x ≡ movedRegisters s r j
+  pub few : x ≤ 2000
