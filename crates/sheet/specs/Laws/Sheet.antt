@@ -30,7 +30,7 @@ use Rattle.sheet.specs.declared.frame.Frame.{Frame}
 use Rattle.sheet.specs.declared.frame.Frame.the-variants as F
 
 -- ---- the block rule on excess numbers
-limits-fit : (z : ℤ) → LagLimits z → mag z < 32768
+pub limits-fit : (z : ℤ) → LagLimits z → mag z < 32768
 limits-fit (pos k) h = omega (arith, le-parts (pos k) (pos 1000) (h .1))
 limits-fit (negsuc k) h = omega (arith, le-parts (negsuc 999) (negsuc k) (h .0))
 
