@@ -2,3 +2,4 @@
 pub mod Reading
 pub mod Writing
 pub mod Written
+pub mod Questions

@@ -56,7 +56,11 @@ fn put_limits(s: &[u8], n: usize, lags: &[i16], top: bool, moved: &mut [u8])
     let base = limits_from(top);
     let mut b: usize = 0;
     while b < n {
-        put_lag(moved, base + 8 * b, limit_at(s, top, b) + 32768 - lag_at(lags, b));
+        put_lag(
+            moved,
+            base + 8 * b,
+            limit_at(s, top, b) + 32768 - lag_at(lags, b),
+        );
         b += 1;
     }
 }
