@@ -3,3 +3,5 @@ pub mod Reading
 pub mod Writing
 pub mod Written
 pub mod Questions
+pub mod Lags
+pub mod Moved
