@@ -1,5 +1,6 @@
 -- Lags on a core: the move rule, permitted lags, and the period that they meet. All in integers, in 01's words.
 use mathlib.Core.Path.{_≡_}
+use mathlib.Core.Logic.{_⊎_}
 use mathlib.Core.List.{List}
 use Prim.Native.Nat.{ℕ, _≤_, _<_}
 use lib.IntN.{ℤ, pos, negsuc, _+ℤ_, _-ℤ_}
@@ -49,3 +50,14 @@ pub record Moved (c : Core) (r : ℕ → ℤ) (c′ : Core) : Type 0 where
   pub ceiling-is : (j : ℕ) → j < c .shape .m → c′ .ceiling j ≡ c .ceiling j
   pub lower-is : (b : ℕ) → b < c .shape .n → c′ .lower b ≡ c .lower b -ℤ r b
   pub upper-is : (b : ℕ) → b < c .shape .n → c′ .upper b ≡ c .upper b -ℤ r b
+
+-- c is the larger of a and b, and the smaller of them
+pub record Larger (a b c : ℤ) : Type 0 where
+  pub above-first : a ≤ℤ c
+  pub above-second : b ≤ℤ c
+  pub one-of : (c ≡ a) ⊎ (c ≡ b)
+
+pub record Smaller (a b c : ℤ) : Type 0 where
+  pub below-first : c ≤ℤ a
+  pub below-second : c ≤ℤ b
+  pub one-of : (c ≡ a) ⊎ (c ≡ b)

@@ -5,3 +5,4 @@ pub mod Written
 pub mod Questions
 pub mod Lags
 pub mod Moved
+pub mod Lattice
