@@ -6,3 +6,4 @@ pub mod Questions
 pub mod Lags
 pub mod Moved
 pub mod Lattice
+pub mod Sheets
