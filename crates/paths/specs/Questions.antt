@@ -5,7 +5,7 @@ use Prim.Native.Nat.{ℕ, _+_, _*_, _≤_, _<_}
 use lib.ListN.{length, getD}
 use Rattle.sheet.specs.Core.{blocksIn, registersIn, shapeOf}
 use Rattle.sheet.specs.Rules.{Rule, First, answer, refusal, firstPlace, stage}
-use Rattle.sheet.specs.Sheet.{frameRules, entryRules}
+use Rattle.sheet.specs.Sheet.{frameRules, entryRules, FormedSheet}
 use Rattle.sheet.specs.declared.answer.Answer.{Answer}
 use Rattle.paths.specs.Table.{LoopAt, Table}
 
@@ -16,6 +16,11 @@ loopRules s = firstPlace (LoopAt (shapeOf s) (registersIn s)) (blocksIn s) (λ b
 -- 5, 6 and 7
 abbrev pub soundRules : List ℕ → List (Rule Answer)
 soundRules s = entryRules s ++ loopRules s
+
+-- a sheet that passes 1, 2, 3, 5, 6 and 7
+pub record SoundSheet (s : List ℕ) : Type 0 where
+  pub formed : FormedSheet s
+  pub free : (b : ℕ) → LoopAt (shapeOf s) (registersIn s) b → ⊥
 
 -- 4: "a lent list is too short", place "0 if the first list is, else 1"
 abbrev pub roomRules : ℕ → ℕ → ℕ → ℕ → List (Rule Answer)

@@ -9,16 +9,16 @@ use native.Mathlib.Nat.{div-add-mod', div-lt-iff-lt-mul, mod-lt}
 use native.Mathlib.Decide.{ℕ-discrete, decLt}
 use lib.Seq.{ext-getD}
 use lib.ListN.{length, getD}
-use Rattle.sheet.specs.Core.{blocksIn, registersIn, shapeOf}
+use Rattle.sheet.specs.Core.{coreOf, blocksIn, registersIn, shapeOf}
 use Rattle.sheet.specs.Rules.{Rule, First, None, Exact, answer, refusal, stage}
 use Rattle.sheet.specs.Sheet.{Framed, FormedSheet, frameRules, entryRules}
-use Rattle.sheet.specs.Laws.Rules.{agree, tight-both, first-left, first-right, none-left, none-right, ends, goes-on, stage-exact, refusal-exact, place-exact}
+use Rattle.sheet.specs.Laws.Rules.{agree, tight-both, first-left, first-right, none-left, none-right, ends, goes-on, stage-exact, refusal-exact, place-exact, none-both, NonZero, nonzero-both, past, past-stage, refusal-nonzero, place-nonzero}
 use Rattle.sheet.specs.Laws.Sheet.{framed-none}
-use Rattle.sheet.specs.Laws.Formed.{none-formed, frame-exact, entry-exact}
+use Rattle.sheet.specs.Laws.Formed.{none-formed, none-framed, formed-none, formed-core, frame-exact, entry-exact, frame-nonzero, entry-nonzero}
 use Rattle.sheet.specs.declared.answer.Answer.{Answer}
-use Rattle.paths.specs.Table.{LoopAt, Table}
+use Rattle.paths.specs.Table.{LoopAt, Table, Sound}
 use Rattle.paths.specs.Row.{Rows}
-use Rattle.paths.specs.Questions.{loopRules, soundRules, roomRules, afterFrame, CheckRight, TableOutcome, tableOutcome, KeptFrom, TableDone, tableAfterFrame, TableRight}
+use Rattle.paths.specs.Questions.{SoundSheet, loopRules, soundRules, roomRules, afterFrame, CheckRight, TableOutcome, tableOutcome, KeptFrom, TableDone, tableAfterFrame, TableRight}
 use Rattle.paths.specs.Laws.Path.{joins-start-lt}
 use Rattle.paths.specs.Laws.Entry.{entry-unique}
 
@@ -142,3 +142,47 @@ module _ (s r d : List ℕ) where
       (tight-both _≡_ (stage keep (frameRules s)) (tableAfterFrame s r d) (stage-exact keep (frameRules s) (frame-exact s))
       (tight-both _≡_ (stage keep room) (stage keep (soundRules s) ++ last) (stage-exact keep room (refusal-exact (answer 4 0 0), (refusal-exact (answer 4 1 0), tt)))
       (tight-both _≡_ (stage keep (soundRules s)) last (stage-exact keep (soundRules s) (sound-exact s)) (same-outcome, tt))))
+
+-- ---- what an answer 0 means
+loop-nonzero : (s : List ℕ) → NonZero (loopRules s)
+loop-nonzero s = (place-nonzero _ _ (λ b. answer 7 b 0) (λ b. omega arith), tt)
+
+pub sound-nonzero : (s : List ℕ) → NonZero (soundRules s)
+sound-nonzero s = nonzero-both (entryRules s) (loopRules s) (entry-nonzero s) (loop-nonzero s)
+
+pub room-nonzero : (a b c d : ℕ) → NonZero (roomRules a b c d)
+room-nonzero a b c d = (refusal-nonzero (answer 4 0 0) (omega arith), (refusal-nonzero (answer 4 1 0) (omega arith), tt))
+
+pub sound-sheet : (s : List ℕ) → None (frameRules s) → None (soundRules s) → SoundSheet s
+sound-sheet s f h = record { formed = sound-formed s (none-framed s f) h; free = sound-free s h }
+
+pub sheet-sound : (s : List ℕ) → SoundSheet s → None (soundRules s)
+sheet-sound s h = none-both (entryRules s) (loopRules s) (formed-none s (h .formed)) (λ k. h .free (k .0) (k .2), tt)
+
+pub sound-core : (s : List ℕ) → SoundSheet s → Sound (coreOf s)
+sound-core s h = record { formed = formed-core s (h .formed); no-loop = h .free }
+
+-- check answers 0 exactly if the sheet is sound
+pub check-means : (s : List ℕ) (a : Answer) → CheckRight s a → a .number ≡ 0 → SoundSheet s
+check-means s a h z =
+    let p = past (frameRules s) (afterFrame s) a (frame-nonzero s) z h in
+    let q = past (soundRules s) (refusal Unit (answer 0 0 0) ∷ []) a (sound-nonzero s) z (p .1) in
+    sound-sheet s (p .0) (q .0)
+
+pub sound-checks : (s : List ℕ) → SoundSheet s → CheckRight s (answer 0 0 0)
+sound-checks s h = check-rest s (answer 0 0 0) (h .formed .framed) (sound s (sheet-sound s h))
+
+-- path table answers 0 only with the table of a sound sheet
+pub table-means : (s r d : List ℕ) (o : TableOutcome) → TableRight s r d o → o .says .number ≡ 0 → SoundSheet s × TableDone s r d o
+table-means s r d o h z =
+    let k : Answer → TableOutcome = λ a. tableOutcome a r d in
+    let y : TableOutcome → Answer = λ x. x .says in
+    let room = roomRules (length r) (blocksIn s * blocksIn s) (length d) (blocksIn s * blocksIn s) in
+    let p = past-stage k y (λ a. refl) (frameRules s) (tableAfterFrame s r d) o (frame-nonzero s) z h in
+    let q = past-stage k y (λ a. refl) room (stage k (soundRules s) ++ (record { when = Unit; gives = TableDone s r d } ∷ [])) o (room-nonzero (length r) (blocksIn s * blocksIn s) (length d) (blocksIn s * blocksIn s)) z (p .1) in
+    let t = past-stage k y (λ a. refl) (soundRules s) (record { when = Unit; gives = TableDone s r d } ∷ []) o (sound-nonzero s) z (q .1) in
+    (sound-sheet s (p .0) (t .0), last-done s r d o (t .1))
+  where
+    last-done : (s r d : List ℕ) (o : TableOutcome) → First (record { when = Unit {0}; gives = TableDone s r d } ∷ []) o → TableDone s r d o
+    last-done s r d o (inl g) = g .1
+    last-done s r d o (inr g) = absurd (g .0 tt)

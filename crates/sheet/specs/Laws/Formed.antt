@@ -16,7 +16,7 @@ use Rattle.sheet.specs.Rules.{None, Exact, answer}
 use Rattle.sheet.specs.Sheet.{LagLimits, BlockRule, WireRule, BlockGood, WireGood, frameRules, entryRules, Offsets, Framed, FormedSheet, Formed}
 use Rattle.sheet.specs.Reads.{BlockNumbers}
 use Rattle.sheet.specs.Laws.Integer.{up, down, le-parts, parts-le}
-use Rattle.sheet.specs.Laws.Rules.{refusal-exact, place-exact}
+use Rattle.sheet.specs.Laws.Rules.{NonZero, refusal-exact, place-exact, refusal-nonzero, place-nonzero}
 use Rattle.sheet.specs.Laws.Sheet.{block-numbers}
 
 -- ---- a rule that does not fail holds, since each of its parts is decided
@@ -110,3 +110,19 @@ module _ (s : List ℕ) where
 -- a formed core's blocks, as numbers
 pub formed-numbers : (c : Core) → Formed c → (b : ℕ) → b < c .shape .n → BlockNumbers b (c .shape .delay b) (excess (c .lower b)) (excess (c .upper b))
 formed-numbers c f b h = block-numbers b (c .shape .delay b) (c .lower b) (c .upper b) (f .block b h)
+
+-- ---- none of them answers 0
+pub frame-nonzero : (s : List ℕ) → NonZero (frameRules s)
+frame-nonzero s = (
+  refusal-nonzero (answer 1 0 0) (omega arith),
+  (
+    refusal-nonzero (answer 2 0 0) (omega arith),
+    (
+      refusal-nonzero (answer 3 0 0) (omega arith),
+      tt,
+    ),
+  ),
+)
+
+pub entry-nonzero : (s : List ℕ) → NonZero (entryRules s)
+entry-nonzero s = (place-nonzero _ _ (λ b. answer 5 b 0) (λ b. omega arith), (place-nonzero _ _ (λ j. answer 6 j 0) (λ j. omega arith), tt))

@@ -123,3 +123,32 @@ told-false P b h e = subst (Told P) e h
 pub staged-after : (rs ts : List (Rule Answer)) (r : Stage) → None rs → Staged ts r → Staged (rs ++ ts) r
 staged-after rs ts Pass n h = none-both rs ts n h
 staged-after rs ts (Refuse a) n h = first-right rs ts a n h
+
+-- ---- an answer 0 comes from none of the refusals
+abbrev pub NonZero : List (Rule Answer) → Type 0
+NonZero [] = Unit {0}
+NonZero (r ∷ rs) = ((a : Answer) → r .gives a → a .number ≡ 0 → ⊥) × NonZero rs
+
+pub nonzero-both : (rs ts : List (Rule Answer)) → NonZero rs → NonZero ts → NonZero (rs ++ ts)
+nonzero-both [] ts n k = k
+nonzero-both (r ∷ rs) ts n k = (n .0, nonzero-both rs ts (n .1) k)
+
+pub past : (rs ts : List (Rule Answer)) (a : Answer) → NonZero rs → a .number ≡ 0 → First (rs ++ ts) a → None rs × First ts a
+past [] ts a n z f = (tt, f)
+past (r ∷ rs) ts a n z (inl f) = absurd (n .0 a (f .1) z)
+past (r ∷ rs) ts a n z (inr f) = let q = past rs ts a (n .1) z (f .1) in ((f .0, q .0), q .1)
+
+module _ {A : Type 0} (keep : Answer → A) (says : A → Answer) (back : (a : Answer) → says (keep a) ≡ a) where
+  pub past-stage : (rs : List (Rule Answer)) (ts : List (Rule A)) (o : A) → NonZero rs → says o .number ≡ 0 → First (stage keep rs ++ ts) o → None rs × First ts o
+  past-stage [] ts o n z f = (tt, f)
+  past-stage (r ∷ rs) ts o n z (inl f) =
+      let g = f .1 in
+      let e : says o ≡ g .0 = ap says (g .2) ∙ back (g .0) in
+      absurd (n .0 (g .0) (g .1) (sym (ap (λ (x : Answer). x .number) e) ∙ z))
+  past-stage (r ∷ rs) ts o n z (inr f) = let q = past-stage rs ts o (n .1) z (f .1) in ((f .0, q .0), q .1)
+
+pub refusal-nonzero : (c : Answer) → 0 < c .number → (a : Answer) → a ≡ c → a .number ≡ 0 → ⊥
+refusal-nonzero c h a e z = omega (arith, ap (λ (x : Answer). x .number) e)
+
+pub place-nonzero : (P : ℕ → Type 0) (m : ℕ) (says : ℕ → Answer) → ((r : ℕ) → 0 < says r .number) → (a : Answer) → firstPlace P m says .gives a → a .number ≡ 0 → ⊥
+place-nonzero P m says h a f z = omega (arith, ap (λ (x : Answer). x .number) (f .3), h (f .0))
