@@ -7,3 +7,4 @@ pub mod Lags
 pub mod Moved
 pub mod Lattice
 pub mod Sheets
+pub mod Theorems

@@ -49,7 +49,7 @@ module _ (c : Core) (r : ℕ → ℤ) (x : ℕ → ℕ) (mv : MovedTo c r x) whe
         → cond b (c .shape .to j) (c .shape .from j) ≡ u
         → up X + down W + up (r (cond b (c .shape .from j) (c .shape .to j))) + y ≡ up W + down X + z + down (r (cond b (c .shape .from j) (c .shape .to j)))
         → up (cond b (X -ℤ pos (x j)) (X +ℤ pos (x j))) + down (cond b (W -ℤ pos (c .registers j)) (W +ℤ pos (c .registers j))) + up (r u) + y
-          ≡ up (cond b (W -ℤ pos (c .registers j)) (W +ℤ pos (c .registers j))) + down (cond b (X -ℤ pos (x j)) (X +ℤ pos (x j))) + z + down (r u)
+        ≡ up (cond b (W -ℤ pos (c .registers j)) (W +ℤ pos (c .registers j))) + down (cond b (X -ℤ pos (x j)) (X +ℤ pos (x j))) + z + down (r u)
     step-by true y z e k =
         omega (arith, minus X (pos (x j)), minus W (pos (c .registers j)), wire-parts j h, ap (λ (b : ℕ). up (r b)) e, ap (λ (b : ℕ). down (r b)) e)
     step-by false y z e k =

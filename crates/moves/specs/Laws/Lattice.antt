@@ -32,7 +32,7 @@ module _ (c : Core) (j : ℕ) where
   abbrev b : ℕ
   b = c .shape .to j
 
-  value : (r : ℕ → ℤ) → up (movedBy c r j) + up (r a) + down (r b) ≡ c .registers j + up (r b) + down (r a) + down (movedBy c r j)
+  pub value : (r : ℕ → ℤ) → up (movedBy c r j) + up (r a) + down (r b) ≡ c .registers j + up (r b) + down (r a) + down (movedBy c r j)
   value r = omega (arith, minus (pos (c .registers j) +ℤ r b) (r a), plus (pos (c .registers j)) (r b))
 
   keeps-low : (r q : ℕ → ℤ) → r b ≤ℤ q b → q a ≤ℤ r a → pos 0 ≤ℤ movedBy c r j → pos 0 ≤ℤ movedBy c q j
@@ -66,8 +66,7 @@ module _ (c : Core) (f : Formed c) (r s q : ℕ → ℤ) where
       in-range = λ b l. range-one c r s q b (h .in-range b l) (k .in-range b l) (g b l .one-of);
       fits = λ j l.
           let ga = g (c .shape .from j) (f .from-block j l) in
-          let gb = g (c .shape .to j) (f .to-block j l) in
-          (
+          let gb = g (c .shape .to j) (f .to-block j l) in (
             elim (ga .one-of) [
               | inl e ↦ keeps-low c j r q (gb .above-first) (same-le _ _ e) (h .fits j l .0)
               | inr e ↦ keeps-low c j s q (gb .above-second) (same-le _ _ e) (k .fits j l .0)
@@ -85,8 +84,7 @@ module _ (c : Core) (f : Formed c) (r s q : ℕ → ℤ) where
       in-range = λ b l. range-one c r s q b (h .in-range b l) (k .in-range b l) (g b l .one-of);
       fits = λ j l.
           let ga = g (c .shape .from j) (f .from-block j l) in
-          let gb = g (c .shape .to j) (f .to-block j l) in
-          (
+          let gb = g (c .shape .to j) (f .to-block j l) in (
             elim (gb .one-of) [
               | inl e ↦ keeps-low c j r q (same-le _ _ (sym e)) (ga .below-first) (h .fits j l .0)
               | inr e ↦ keeps-low c j s q (same-le _ _ (sym e)) (ga .below-second) (k .fits j l .0)

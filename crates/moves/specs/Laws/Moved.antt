@@ -50,21 +50,21 @@ module _ (c c′ : Core) (r : ℕ → ℤ) (mv : Moved c r c′) where
         let ws = b .way .wires in
         let W′ : ℕ = registersOn (c′ .registers) ws in
         let e : pos W′ ≡ pos W +ℤ r v -ℤ r u =
-            path-moved c r (c′ .registers) (mv .registers-is) u ws v (b .way .joins) ∙ ap (λ (k : ℕ). pos k +ℤ r v -ℤ r u) (b .way .registers-is) in
+        path-moved c r (c′ .registers) (mv .registers-is) u ws v (b .way .joins) ∙ ap (λ (k : ℕ). pos k +ℤ r v -ℤ r u) (b .way .registers-is) in
         let t = telescope c r (c′ .registers) (mv .registers-is) in
         let q = shorten (c .shape) (c .registers) u v ws (b .way .joins) in
         let small : W′ < 4294967295 =
-            omega (
-              arith,
-              t u ws v (b .way .joins),
-              t u (q .wires) v (q .joins),
-              b .fewest (q .wires) (q .joins),
-              b .way .registers-is,
-              registers-few (c .shape) (c′ .registers) moved-few u (q .wires) v (q .joins),
-              q .short,
-              q .fewer,
-              f .few-blocks,
-            ) in
+        omega (
+          arith,
+          t u ws v (b .way .joins),
+          t u (q .wires) v (q .joins),
+          b .fewest (q .wires) (q .joins),
+          b .way .registers-is,
+          registers-few (c .shape) (c′ .registers) moved-few u (q .wires) v (q .joins),
+          q .short,
+          q .fewer,
+          f .few-blocks,
+        ) in
         (W′, entry-same same-wires same-delays u v W′ D (best (best-moved c r (c′ .registers) (mv .registers-is) u v W W′ D e small b)), λ xs h. e)
     entry-moved u v W D (none g p q) = (W, entry-same same-wires same-delays u v W D (none g p q), λ ws h. absurd (g ws h))
 
@@ -90,8 +90,7 @@ module _ (c c′ : Core) (r : ℕ → ℤ) (mv : Moved c r c′) where
               let el = ap up (e .1) in
               let dl = ap down (e .1) in
               let eu = ap up (e .2) in
-              let du = ap down (e .2) in
-              (
+              let du = ap down (e .2) in (
                 e .0,
                 parts-eq (c .lower b -ℤ r b) (pos 0) (omega (arith, l, u, el, dl, eu, du, lo)),
                 parts-eq (c .upper b -ℤ r b) (pos 0) (omega (arith, l, u, el, dl, eu, du, hi)),
@@ -127,25 +126,24 @@ module _ (c c′ : Core) (r : ℕ → ℤ) (mv : Moved c r c′) where
         ap (λ (k : ℕ). pos x +ℤ t k -ℤ t (c′ .shape .from j)) (mv .to-is j h)
         ∙ ap (λ (k : ℕ). pos x +ℤ t b -ℤ t k) (mv .from-is j h)
         ∙ parts-eq (pos x +ℤ t b -ℤ t a) (pos w +ℤ (r b +ℤ t b) -ℤ (r a +ℤ t a))
-          (omega (
-            arith,
-            ap up e,
-            ap down e,
-            minus (pos w +ℤ r b) (r a),
-            plus (pos w) (r b),
-            minus (pos x +ℤ t b) (t a),
-            plus (pos x) (t b),
-            minus (pos w +ℤ (r b +ℤ t b)) (r a +ℤ t a),
-            plus (pos w) (r b +ℤ t b),
-            plus (r b) (t b),
-            plus (r a) (t a),
-          ))
+        (omega (
+          arith,
+          ap up e,
+          ap down e,
+          minus (pos w +ℤ r b) (r a),
+          plus (pos w) (r b),
+          minus (pos x +ℤ t b) (t a),
+          plus (pos x) (t b),
+          minus (pos w +ℤ (r b +ℤ t b)) (r a +ℤ t a),
+          plus (pos w) (r b +ℤ t b),
+          plus (r b) (t b),
+          plus (r a) (t a),
+        ))
 
-    range-after : (b : ℕ) → b < c .shape .n → InRange c′ t b → InRange c (λ k. r k +ℤ t k) b
+    pub range-after : (b : ℕ) → b < c .shape .n → InRange c′ t b → InRange c (λ k. r k +ℤ t k) b
     range-after b h i =
         let l : (c .lower b -ℤ r b) ≤ℤ t b = rw (mv .lower-is b h) at (i .0) in
-        let u : t b ≤ℤ (c .upper b -ℤ r b) = rw (mv .upper-is b h) at (i .1) in
-        (
+        let u : t b ≤ℤ (c .upper b -ℤ r b) = rw (mv .upper-is b h) at (i .1) in (
           parts-le (c .lower b) (r b +ℤ t b) (omega (arith, le-parts (c .lower b -ℤ r b) (t b) l, minus (c .lower b) (r b), plus (r b) (t b))),
           parts-le (r b +ℤ t b) (c .upper b) (omega (arith, le-parts (t b) (c .upper b -ℤ r b) u, minus (c .upper b) (r b), plus (r b) (t b))),
         )

@@ -110,8 +110,8 @@ module _ (a b : List ℕ) (x : Bytes a) (y : Bytes b) where
       elim (ℕ-discrete i 0) [
         | yes z ↦ rw z (omega (arith, zero-at a, zero-at b, x .below at, x .below (at + 1), y .below at, y .below (at + 1)))
         | no z ↦
-          let q : i ≡ 1 = omega arith in
-          rw q (omega (arith, x .below at, x .below (at + 1), y .below at, y .below (at + 1)))
+            let q : i ≡ 1 = omega arith in
+            rw q (omega (arith, x .below at, x .below (at + 1), y .below at, y .below (at + 1)))
       ]
     where
       zero-at : (l : List ℕ) → getD l (at + 0) 0 ≡ getD l at 0
@@ -140,9 +140,9 @@ module _ (s : List ℕ) (f : FormedSheet s) (r : ℕ → ℤ) (a b : List ℕ) (
       elim (decLt i 4) [
         | yes k ↦ x i k
         | no k ↦ elim (decLt i 6) [
-            | yes g ↦ let e : at + i ≡ at + 4 + (i - 4) = omega arith in rw e (y (i - 4) (omega arith))
-            | no g ↦ let e : at + i ≡ at + 6 + (i - 6) = omega arith in rw e (z (i - 6) (omega arith))
-          ]
+          | yes g ↦ let e : at + i ≡ at + 4 + (i - 4) = omega arith in rw e (y (i - 4) (omega arith))
+          | no g ↦ let e : at + i ≡ at + 6 + (i - 6) = omega arith in rw e (z (i - 6) (omega arith))
+        ]
       ]
 
   block-same : (k : ℕ) → k < n → (i : ℕ) → i < 8 → Same (blockAt k + i)
@@ -168,13 +168,13 @@ module _ (s : List ℕ) (f : FormedSheet s) (r : ℕ → ℤ) (a b : List ℕ) (
       elim (decLt i 16) [
         | yes k ↦ let e : i ≡ 0 + i = omega arith in rw e (both 0 16 (p .header) (q .header) i k)
         | no k ↦ elim (decLt i (16 + 8 * n)) [
-            | yes g ↦
+          | yes g ↦
               let e : i ≡ blockAt ((i - 16) / 8) + (i - 16) % 8 = omega arith in
               rw e (block-same ((i - 16) / 8) (omega arith) ((i - 16) % 8) (omega arith))
-            | no g ↦
+          | no g ↦
               let e : i ≡ wireAt n ((i - 16 - 8 * n) / 8) + (i - 16 - 8 * n) % 8 = omega arith in
               rw e (wire-same ((i - 16 - 8 * n) / 8) (omega arith) ((i - 16 - 8 * n) % 8) (omega arith))
-          ]
+        ]
       ]
 
   pub moved-unique : a ≡ b

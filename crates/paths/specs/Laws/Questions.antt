@@ -44,7 +44,7 @@ module _ (s : List ℕ) where
   pub sound : None (soundRules s) → First (afterFrame s) (answer 0 0 0)
   sound h = first-right (soundRules s) (refusal Unit (answer 0 0 0) ∷ []) (answer 0 0 0) h (inl (tt, refl))
 
-  sound-exact : Exact (soundRules s)
+  pub sound-exact : Exact (soundRules s)
   sound-exact = tight-both _≡_ (entryRules s) (loopRules s) (entry-exact s) (place-exact _ _ _, tt)
 
   -- two answers to one sheet are one

@@ -1,0 +1,2 @@
+-- Laws about the definitions of specs/, for proofs and for the crates above.
+pub mod Out
