@@ -6,9 +6,10 @@ ghost use Rattle.sheet.specs.Core.{coreOf, blocksIn, wiresIn};
 ghost use Rattle.sheet.specs.Rules.{First, Told};
 ghost use Rattle.sheet.specs.Sheet.{Framed, FormedSheet};
 ghost use Rattle.loops.specs.Link.{ValidLoop};
-ghost use Rattle.loops.specs.Reads.{Chained};
+ghost use Rattle.loops.specs.Reads.{LinkIs};
 ghost use Rattle.loops.specs.Loop.{LoopRight, loopAfterFrame};
 use crate::link::LinkRead;
+use crate::link::Read;
 use crate::read::read_link;
 use sheet::answer::Answer;
 use sheet::answer::Stage;
@@ -21,25 +22,15 @@ pub mod link; // a link as the words hold it
 pub mod path; // a link of kind 2
 pub mod read; // one link
 
-// Whether the links from `next` on go on from the first link, come back to its a, and add up to less than 0 with it.
-fn closes(
-    s: &[u8],
-    n: usize,
-    m: usize,
-    c: u32,
-    words: &[u16],
-    first: usize,
-    b: usize,
-    k: u32,
-    next: usize,
-) -> bool
-    requires { ⌜ FormedSheet (now s) × (n ≡ blocksIn (now s)) × (m ≡ wiresIn (now s)) × (length (now words) ≤ 4224) × Chained (now s) c (now words) first b k 1 next ⌝ }
+// Whether the links after the first go on from it, come back to its a, and add up to less than 0 with it.
+fn closes(s: &[u8], n: usize, m: usize, c: u32, words: &[u16], first: Read) -> bool
+    requires { ⌜ FormedSheet (now s) × (n ≡ blocksIn (now s)) × (m ≡ wiresIn (now s)) × (length (now words) ≤ 4224) × LinkIs (now s) c (now words) 0 first ⌝ }
     ensures { λ r. ⌜ Told (ValidLoop (coreOf (now (s .entry))) c (now (words .entry))) r ⌝ }
 {
-    let mut last = b;
-    let mut sum = k;
+    let mut last = first.b;
+    let mut sum = first.k;
     let mut links = 1u32;
-    let mut at = next;
+    let mut at = first.next;
     while at < words.len() {
         let LinkRead::Good(l) = read_link(s, n, m, c, words, at) else {
             return false;
@@ -52,7 +43,7 @@ fn closes(
         links += 1;
         at = l.next;
     }
-    if last != first {
+    if last != first.a {
         return false;
     }
     if sum >= 32768 * links {
@@ -69,10 +60,10 @@ fn valid(s: &[u8], n: usize, m: usize, c: u32, words: &[u16]) -> bool
     if words.len() > 4224 {
         return false;
     }
-    let LinkRead::Good(l) = read_link(s, n, m, c, words, 0) else {
+    let LinkRead::Good(first) = read_link(s, n, m, c, words, 0) else {
         return false;
     };
-    closes(s, n, m, c, words, l.a, l.b, l.k, l.next)
+    closes(s, n, m, c, words, first)
 }
 
 // Check a loop against a sheet whose header is right.

@@ -5,18 +5,18 @@ use Prim.Native.Nat.{_-_}
 use lib.ListN.{length}
 use Rattle.loops.specs.Reads.{Chained}
 use Rattle.loops.specs.Laws.Links.{link-read, link-refused}
-use Rattle.loops.specs.Laws.Chain.{chained-next, chained-stuck, chained-broken, chained-open, chained-heavy, chained-valid}
+use Rattle.loops.specs.Laws.Chain.{chained-first, chained-next, chained-stuck, chained-broken, chained-open, chained-heavy, chained-valid}
 use Rattle.loops.proofs.closes.Statement.{statement}
 use Rattle.loops.proofs.closes.Tie as tie
 
 abbrev Inv-loop : tie.InvT-loop
-Inv-loop s n m c words first b k next last₀ sum₀ links₀ at₀ last sum links at = Chained s c words first last sum links at
+Inv-loop s n m c words first last₀ sum₀ links₀ at₀ last sum links at = Chained s c words (first .a) last sum links at
 
 abbrev μ-loop : tie.MeasureT-loop
-μ-loop s n m c words first b k next last₀ sum₀ links₀ at₀ last sum links at = length words - at
+μ-loop s n m c words first last₀ sum₀ links₀ at₀ last sum links at = length words - at
 
 loop-holds : tie.Need-loop-holds Inv-loop μ-loop
-loop-holds c = c .before .before .pre .4
+loop-holds c = chained-first (c .before .before .args .s .now) _ (c .before .before .args .words .now) _ (c .before .before .pre .4)
 
 read-link-requires : tie.Need-read-link-requires Inv-loop μ-loop
 read-link-requires c κs = search needs
@@ -48,16 +48,16 @@ loop-again : tie.Need-loop-again Inv-loop μ-loop
 loop-again c = chained-next (c .before .before .before .before .before .before .before .before .before .before .before .args .s .now) _ (c .before .before .before .before .before .before .before .before .before .before .before .args .words .now) _ _ _ _ _ (c .before .before .before .before .before .before .before .before .loop .inv) _ (link-read (c .before .before .before .before .before .before .before .before .before .before .before .args .s .now) _ (c .before .before .before .before .before .before .before .before .before .before .before .args .words .now) _ (c .before .before .before .before .before .before .read-link .result) _ (c .before .before .before .before .before .before .read-link .ensures) (c .before .before .before .before .l .given .1)) (c .before .if1 .left)
 
 returns-3 : tie.Need-returns-3 Inv-loop μ-loop
-returns-3 c = chained-open (c .before .before .before .before .before .args .s .now) _ (c .before .before .before .before .before .args .words .now) _ _ _ _ _ (c .before .before .loop .inv) (omega arith) (c .if2 .taken)
+returns-3 c = chained-open (c .before .before .before .before .before .before .args .s .now) _ (c .before .before .before .before .before .before .args .words .now) _ _ _ _ _ (c .before .before .before .loop .inv) (omega arith) (c .if2 .taken)
 
 mul-if3 : tie.Need-mul-if3 Inv-loop μ-loop
 mul-if3 c = search needs
 
 returns-4 : tie.Need-returns-4 Inv-loop μ-loop
-returns-4 c = chained-heavy (c .before .before .before .before .before .before .args .s .now) _ (c .before .before .before .before .before .before .args .words .now) _ _ _ _ _ (c .before .before .before .loop .inv) (omega arith) (c .if3 .taken)
+returns-4 c = chained-heavy (c .before .before .before .before .before .before .before .args .s .now) _ (c .before .before .before .before .before .before .before .args .words .now) _ _ _ _ _ (c .before .before .before .before .loop .inv) (omega arith) (omega arith)
 
 returns-5 : tie.Need-returns-5 Inv-loop μ-loop
-returns-5 c = chained-valid (c .before .before .before .before .before .before .args .s .now) _ (c .before .before .before .before .before .before .args .words .now) _ _ _ _ _ (c .before .before .before .loop .inv) (omega arith) (c .before .before .before .before .before .before .pre .3) (c .before .if2 .left) (omega arith)
+returns-5 c = chained-valid (c .before .before .before .before .before .before .before .args .s .now) _ (c .before .before .before .before .before .before .before .args .words .now) _ _ _ _ _ (c .before .before .before .before .loop .inv) (omega arith) (c .before .before .before .before .before .before .before .pre .3) (c .before .if2 .left) (omega arith)
 
 pub closes-spec : {M : Type 1} → statement M
 closes-spec =

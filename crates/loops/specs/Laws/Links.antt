@@ -102,16 +102,16 @@ module _ (s : List ℕ) (at kind j : ℕ) where
     }
     wire-good e p words (inr g) = absurd (omega (arith, g .0))
 
-    pub ceiling-good : (kind ≡ 1 → ⊥) → WireSettled s at kind j (R.Good (record { link = L.Wire kind j; a = t; b = f; k = 34768 - w; next = at + 2 }))
-    ceiling-good e p words (inl g) = absurd (e (g .0))
-    ceiling-good e p words (inr g) = record {
+    pub ceiling-good : (k : ℕ) → (kind ≡ 1 → ⊥) → k + w ≡ 34768 → WireSettled s at kind j (R.Good (record { link = L.Wire kind j; a = t; b = f; k = k; next = at + 2 }))
+    ceiling-good k e q p words (inl g) = absurd (e (g .0))
+    ceiling-good k e q p words (inr g) = record {
       head = inr g;
       link = ceiling j;
       spelt = g .1;
       good = h;
       a-is = i .to-is;
       b-is = i .from-is;
-      k-is = omega (arith, i .registers-is, i .few, minus (pos 2000) (pos (registersIn s j)));
+      k-is = omega (arith, i .registers-is, minus (pos 2000) (pos (registersIn s j)));
       small = omega (arith, i .few);
     }
 

@@ -34,7 +34,8 @@ sub-t16 : tie.Need-sub-t16
 sub-t16 c = omega (arith, wire-read (c .before .before .before .before .before .before .before .args .s .now) (c .before .before .before .before .before .before .before .args .j) (c .before .before .before .before .read-wire .result) _ _ _ (c .before .before .before .before .read-wire .ensures) (c .before .before .from .given .1) .0 .few)
 
 returns-4 : tie.Need-returns-4
-returns-4 c = ceiling-good (c .before .before .before .before .before .before .before .args .s .now) _ _ _ _ _ _ (wire-read (c .before .before .before .before .before .before .before .args .s .now) (c .before .before .before .before .before .before .before .args .j) (c .before .before .before .before .read-wire .result) _ _ _ (c .before .before .before .before .read-wire .ensures) (c .before .before .from .given .1) .0) (omega arith) (c .if2 .left)
+returns-4 c = let w = wire-read (c .before .before .before .before .before .before .before .args .s .now) (c .before .before .before .before .before .before .before .args .j) (c .before .before .before .before .read-wire .result) _ _ _ (c .before .before .before .before .read-wire .ensures) (c .before .before .from .given .1) .0 in
+    ceiling-good (c .before .before .before .before .before .before .before .args .s .now) _ _ _ _ _ _ w (omega arith) _ (c .if2 .left) (omega (arith, w .few))
 
 pub wire-link-spec : {M : Type 1} → statement M
 wire-link-spec =
