@@ -1,3 +1,4 @@
 pub mod Link
 pub mod Loop
+pub mod Reads
 pub mod Laws
