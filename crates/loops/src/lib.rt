@@ -18,9 +18,9 @@ use sheet::answer::refusal;
 use sheet::frame::Frame;
 use sheet::frame::read_frame;
 
-pub mod link; // a link as the words hold it
-pub mod path; // a link of kind 2
-pub mod read; // one link
+mod link; // a link as the words hold it
+mod path; // a link of kind 2
+mod read; // one link
 
 // Whether the links after the first go on from it, come back to its a, and add up to less than 0 with it.
 fn closes(s: &[u8], n: usize, m: usize, c: u32, words: &[u16], first: Read) -> bool

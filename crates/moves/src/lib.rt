@@ -11,8 +11,8 @@ use sheet::answer::refusal;
 use sheet::frame::Frame;
 use sheet::frame::read_frame;
 
-pub mod lags; // refusals 8 and 9
-pub mod write; // the moved sheet is written
+mod lags; // refusals 8 and 9
+mod write; // the moved sheet is written
 
 // The move of a sheet whose header is right.
 fn move_framed(s: &[u8], n: usize, m: usize, lags: &[i16], moved: &mut [u8]) -> Answer

@@ -12,10 +12,10 @@ use sheet::answer::refusal;
 use sheet::frame::Frame;
 use sheet::frame::read_frame;
 
-pub mod loops; // refusal 7: the smallest block on a register-free loop
-pub mod row; // one row of the path table
+mod loops; // refusal 7: the smallest block on a register-free loop
+mod row; // one row of the path table
 pub mod sound; // refusals 5, 6 and 7
-pub mod table; // the path table, row after row
+mod table; // the path table, row after row
 
 // Check a sheet whose header is right.
 fn check_framed(s: &[u8], n: usize, m: usize) -> Answer
