@@ -7,6 +7,7 @@ use lib.ListN.{length, take, drop}
 use Rattle.sheet.specs.Core.{coreOf, shapeOf, blocksIn, wiresIn, delayIn, fromIn, toIn, registersIn}
 use Rattle.sheet.specs.Laws.Integer.{up, down}
 use Rattle.paths.specs.Path.{Joins, registersOn, delayOn}
+use Rattle.paths.specs.Laws.Path.{endOf}
 use Rattle.loops.specs.Link.{Link, wire, path, upper, lower, ceiling, wordsOf, allWords, linkA, linkB, linkK, Good, Chain, sumK}
 use Rattle.loops.specs.declared.link.Link as D
 use Rattle.loops.specs.declared.link.Link.the-variants as L
@@ -87,6 +88,11 @@ pub record Followed (s ws : List ℕ) (u i here registers delay : ℕ) : Type 0 
   pub delay-is : delay ≡ delayOn (shapeOf s) u (take i ws)
   pub few : registers ≤ 2000 * i
   pub short : delay ≤ 10000 * i + 10000
+
+-- all of the first `count` wires do, or they do not join
+abbrev pub FollowGiven : List ℕ → List ℕ → ℕ → ℕ → Step → Type 0
+FollowGiven s ws u count (S.To end registers delay) = Followed s ws u count end registers delay
+FollowGiven s ws u count S.Refused = Joins (shapeOf s) u (take count ws) (endOf (shapeOf s) u (take count ws)) → ⊥
 
 -- ---- the chain
 -- the words before `at` are those of links that lead from block `first` to block `last`; their sum is held as sum + 32,768 for each

@@ -1,10 +1,10 @@
 // A link of kind 2: a path, wire by wire.
 ghost use mathlib.Core.Path.{_≡_};
-ghost use Prim.Native.Nat.{_≤_};
-ghost use lib.ListN.{length};
+ghost use Prim.Native.Nat.{_+_, _≤_};
+ghost use lib.ListN.{length, drop};
 ghost use Rattle.sheet.specs.Core.{blocksIn, wiresIn};
 ghost use Rattle.sheet.specs.Sheet.{FormedSheet};
-ghost use Rattle.loops.specs.Reads.{StepGiven, PathHead, LinkGiven};
+ghost use Rattle.loops.specs.Reads.{StepGiven, FollowGiven, PathHead, LinkGiven};
 use crate::link::Link;
 use crate::link::LinkRead;
 use crate::link::Read;
@@ -14,7 +14,7 @@ use sheet::block::read_block;
 use sheet::wire::WireRead;
 use sheet::wire::read_wire;
 
-// The block that a wire leads to, the wire's registers and the block's delay; or the wire does not lead on.
+// The block that a wire or a path leads to, with the registers and delay that it adds; or it does not lead on.
 pub enum Step {
     To(usize, u32, u32),
     Refused,
@@ -40,7 +40,42 @@ fn lead(s: &[u8], n: usize, m: usize, here: usize, j: usize) -> Step
     Step::To(to, registers, delay)
 }
 
-// The path that starts at block `start` along `count` words: its wires must join and its delay must exceed c.
+// Along `count` words from place `from`, out of block `start`: the end, the path's registers and its delay.
+fn follow(
+    s: &[u8],
+    n: usize,
+    m: usize,
+    words: &[u16],
+    from: usize,
+    start: usize,
+    count: usize,
+) -> Step
+    requires { ⌜ FormedSheet (now s) × (n ≡ blocksIn (now s)) × (m ≡ wiresIn (now s)) × (from + count ≤ length (now words)) × (length (now words) ≤ 4224) ⌝ }
+    ensures { λ r. ⌜ FollowGiven (now (s .entry)) (drop from (now (words .entry))) start count r ⌝ }
+{
+    if start >= n {
+        return Step::Refused;
+    }
+    let BlockRead::Block(first, _, _) = read_block(s, start) else {
+        return Step::Refused;
+    };
+    let mut here = start;
+    let mut registers = 0u32;
+    let mut delay = first;
+    let mut i = 0;
+    while i < count {
+        let Step::To(to, w, d) = lead(s, n, m, here, word_at(words, from + i)) else {
+            return Step::Refused;
+        };
+        here = to;
+        registers += w;
+        delay += d;
+        i += 1;
+    }
+    Step::To(here, registers, delay)
+}
+
+// The path that starts at block `start` along `count` words: its delay must exceed c.
 pub fn path_link(
     s: &[u8],
     n: usize,
@@ -54,32 +89,16 @@ pub fn path_link(
     requires { ⌜ FormedSheet (now s) × (n ≡ blocksIn (now s)) × (m ≡ wiresIn (now s)) × (length (now words) ≤ 4224) × PathHead (now words) at start count ⌝ }
     ensures { λ r. ⌜ LinkGiven (now (s .entry)) c (now (words .entry)) at r ⌝ }
 {
-    if start >= n {
-        return LinkRead::Refused;
-    }
-    let BlockRead::Block(first, _, _) = read_block(s, start) else {
+    let Step::To(end, registers, delay) = follow(s, n, m, words, at + 3, start, count) else {
         return LinkRead::Refused;
     };
-    let mut here = start;
-    let mut registers = 0u32;
-    let mut delay = first;
-    let mut i = 0;
-    while i < count {
-        let Step::To(to, w, d) = lead(s, n, m, here, word_at(words, at + 3 + i)) else {
-            return LinkRead::Refused;
-        };
-        here = to;
-        registers += w;
-        delay += d;
-        i += 1;
-    }
     if delay <= c {
         return LinkRead::Refused;
     }
     LinkRead::Good(Read {
         link: Link::Path(start, count),
         a: start,
-        b: here,
+        b: end,
         k: registers + 32767,
         next: at + 3 + count,
     })

@@ -8,13 +8,13 @@ use native.Mathlib.Numerals.{add-one}
 use lib.ListN.{length, take, drop, getD, length-drop}
 use lib.Seq.{take-suc, getD-drop, take-take, split-at, getD-take, length-take-le}
 use lib.IntN.{pos}
-use Rattle.sheet.specs.Core.{coreOf, shapeOf, blocksIn, wiresIn, delayIn, fromIn, toIn, registersIn}
+use Rattle.sheet.specs.Core.{shapeOf, blocksIn, wiresIn, delayIn, fromIn, toIn, registersIn}
 use Rattle.sheet.specs.Laws.Integer.{minus}
 use Rattle.sheet.specs.Reads.{BlockIs, WireIs}
 use Rattle.paths.specs.Path.{Joins, registersOn}
 use Rattle.paths.specs.Laws.Path.{endOf, passes-all, between-passes, joins-snoc, joins-end, joins-right, joins-start-lt, registers-snoc, delay-snoc}
-use Rattle.loops.specs.Link.{path, Good}
-use Rattle.loops.specs.Reads.{PathHead, LinkGiven, StepIs, StepGiven, Followed}
+use Rattle.loops.specs.Link.{path}
+use Rattle.loops.specs.Reads.{PathHead, LinkGiven, StepIs, StepGiven, Followed, FollowGiven}
 use Rattle.loops.specs.Laws.Links.{not-good}
 use Rattle.loops.specs.declared.link.Link.the-variants as L
 use Rattle.loops.specs.declared.link.LinkRead.the-variants as R
@@ -61,54 +61,61 @@ module _ (s ws : List ℕ) (u : ℕ) where
         }
 
     -- the next wire does not lead on
-    pub follow-stuck : (count p j : ℕ) → i < count → count ≤ length ws → j ≡ getD ws i 0 → (j < wiresIn s → fromIn s j ≡ here → ⊥) → Good (coreOf s) p (path u (take count ws)) → ⊥
-    follow-stuck count p j h l q bad g =
+    pub follow-stuck : (count j : ℕ) → i < count → count ≤ length ws → j ≡ getD ws i 0 → (j < wiresIn s → fromIn s j ≡ here → ⊥) → FollowGiven s ws u count S.Refused
+    follow-stuck count j h l q bad g =
         let xs = take count ws in
         let k : xs ≡ take i ws ++ getD ws i 0 ∷ drop (suc i) xs = split-at xs i 0 (omega (arith, length-take-le count ws l)) ∙ rw (take-take i count ws (omega arith), getD-take count ws i 0 h) refl in
-        let o = joins-right (shapeOf s) u (take i ws) (getD ws i 0 ∷ drop (suc i) xs) (endOf (shapeOf s) u xs) (subst (λ (ys : List ℕ). Joins (shapeOf s) u ys (endOf (shapeOf s) u xs)) k (g .0)) in
+        let o = joins-right (shapeOf s) u (take i ws) (getD ws i 0 ∷ drop (suc i) xs) (endOf (shapeOf s) u xs) (subst (λ (ys : List ℕ). Joins (shapeOf s) u ys (endOf (shapeOf s) u xs)) k g) in
         bad (rw q (o .1)) (rw q (o .2 ∙ joins-end (shapeOf s) u (take i ws) here (f .joins)))
 
-pub start-out : (s : List ℕ) (u p : ℕ) (ws : List ℕ) → blocksIn s ≤ u → Good (coreOf s) p (path u ws) → ⊥
-start-out s u p ws h g = omega (arith, joins-start-lt (shapeOf s) u ws (endOf (shapeOf s) u ws) (g .0))
+    pub follow-end : (count : ℕ) → i ≡ count → FollowGiven s ws u count (S.To here r d)
+    follow-end count e = rw e at f
+
+  pub start-out : (count : ℕ) → blocksIn s ≤ u → FollowGiven s ws u count S.Refused
+  start-out count h g = omega (arith, joins-start-lt (shapeOf s) u (take count ws) (endOf (shapeOf s) u (take count ws)) g)
+
+  pub followed : (count : ℕ) (r : Step) (end w d : ℕ) → FollowGiven s ws u count r → r ≡ S.To end w d → Followed s ws u count end w d
+  followed count r end w d f e = subst (FollowGiven s ws u count) e f
+
+-- ---- the wires as words
+module _ (s words : List ℕ) (from u count : ℕ) (h : from + count ≤ length words) where
+  abbrev wires : List ℕ
+  wires = drop from words
+
+  wires-there : count ≤ length wires
+  wires-there = omega (arith, length-drop from words)
+
+  module _ (i here r d j : ℕ) (f : Followed s wires u i here r d) (k : i < count) (q : j ≡ getD words (from + i) 0) where
+    pub words-stuck : (j < wiresIn s → fromIn s j ≡ here → ⊥) → FollowGiven s wires u count S.Refused
+    words-stuck bad = follow-stuck s wires u i here r d f count j k wires-there (q ∙ sym (getD-drop from words i 0)) bad
+
+    pub words-step : (t w e : ℕ) → StepIs s here j t w e → Followed s wires u (i + 1) t (r + w) (d + e)
+    words-step t w e g = follow-step s wires u i here r d f j t w e (omega (arith, wires-there)) (q ∙ sym (getD-drop from words i 0)) g
 
 -- ---- the link, where the words say that it is a path
 module _ (s : List ℕ) (p : ℕ) (words : List ℕ) (at u count : ℕ) (h : PathHead words at u count) where
-  abbrev wires : List ℕ
-  wires = drop (at + 3) words
+  abbrev along : List ℕ
+  along = drop (at + 3) words
 
-  pub wires-there : count ≤ length wires
-  wires-there = omega (arith, length-drop (at + 3) words, h .within)
+  pub path-stuck : (r : Step) → FollowGiven s along u count r → r ≡ S.Refused → LinkGiven s p words at R.Refused
+  path-stuck r f e =
+      not-good s p words at (at + 3 + count) (path u (take count along)) h (λ g. subst (FollowGiven s along u count) e f (g .0))
 
-  pub path-out : blocksIn s ≤ u → LinkGiven s p words at R.Refused
-  path-out k = not-good s p words at (at + 3 + count) (path u (take count wires)) h (start-out s u p (take count wires) k)
-
-  pub path-stuck : (i here r d j : ℕ) → Followed s wires u i here r d → i < count → j ≡ getD words (at + 3 + i) 0 → (j < wiresIn s → fromIn s j ≡ here → ⊥) → LinkGiven s p words at R.Refused
-  path-stuck i here r d j f k q bad =
-      not-good s p words at (at + 3 + count) (path u (take count wires)) h
-      (follow-stuck s wires u i here r d f count p j k wires-there (q ∙ sym (getD-drop (at + 3) words i 0)) bad)
-
-  pub path-step : (i here r d j t w e : ℕ) → Followed s wires u i here r d → i < count → j ≡ getD words (at + 3 + i) 0 → StepIs s here j t w e → Followed s wires u (i + 1) t (r + w) (d + e)
-  path-step i here r d j t w e f k q g =
-      follow-step s wires u i here r d f j t w e (omega (arith, wires-there)) (q ∙ sym (getD-drop (at + 3) words i 0)) g
-
-  module _ (i here r d : ℕ) (f : Followed s wires u i here r d) (e : i ≡ count) where
-    all : Followed s wires u count here r d
-    all = rw e at f
-
+  module _ (end w d : ℕ) (f : Followed s along u count end w d) where
     pub path-quick : d ≤ p → LinkGiven s p words at R.Refused
     path-quick k =
-        not-good s p words at (at + 3 + count) (path u (take count wires)) h (λ g. omega (arith, g .1, all .delay-is))
+        not-good s p words at (at + 3 + count) (path u (take count along)) h (λ g. omega (arith, g .1, f .delay-is))
 
-    pub path-good : p < d → LinkGiven s p words at (R.Good (record { link = L.Path u count; a = u; b = here; k = r + 32767; next = at + 3 + count }))
+    pub path-good : p < d → LinkGiven s p words at (R.Good (record { link = L.Path u count; a = u; b = end; k = w + 32767; next = at + 3 + count }))
     path-good k =
-        let q = joins-end (shapeOf s) u (take count wires) here (all .joins) in
+        let q = joins-end (shapeOf s) u (take count along) end (f .joins) in
         record {
           head = h;
-          link = path u (take count wires);
+          link = path u (take count along);
           spelt = h;
-          good = (rw q (all .joins), omega (arith, all .delay-is));
+          good = (rw q (f .joins), omega (arith, f .delay-is));
           a-is = refl;
           b-is = sym q;
-          k-is = omega (arith, all .registers-is, minus (pos (registersOn (registersIn s) (take count wires))) (pos 1));
-          small = omega (arith, all .few);
+          k-is = omega (arith, f .registers-is, minus (pos (registersOn (registersIn s) (take count along))) (pos 1));
+          small = omega (arith, f .few);
         }

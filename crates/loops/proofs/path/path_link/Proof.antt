@@ -1,117 +1,54 @@
--- The wires passed so far lead from the start to `here`; the rest of the words is looked at wire by wire.
-use borrow.Author.Needs.{needs}
+-- The wires must join and the delay exceed c.
 use native.Mathlib.Omega.{arith}
-use Prim.Native.Nat.{_+_, _≤_, _-_}
+use Prim.Native.Nat.{_+_}
 use lib.ListN.{drop}
-use Rattle.sheet.specs.Laws.Sheet.{block-read, block-refused}
-use Rattle.loops.specs.Reads.{Followed}
-use Rattle.loops.specs.Laws.Follow.{step-read, step-refused, follow-start, path-out, path-stuck, path-step, path-quick, path-good}
+use Rattle.loops.specs.Laws.Follow.{path-stuck, followed, path-quick, path-good}
+use borrow.Author.Needs.{needs}
 use Rattle.loops.proofs.path.path_link.Statement.{statement}
 use Rattle.loops.proofs.path.path_link.Tie as tie
 
-abbrev Inv-loop : tie.InvT-loop
-Inv-loop s n m c words at start count first here₀ registers₀ delay₀ i₀ here registers delay i = (i ≤ count) × Followed s (drop (at + 3) words) start i here registers delay
+add-follow : tie.Need-add-follow
+add-follow c = search needs
 
-abbrev μ-loop : tie.MeasureT-loop
-μ-loop s n m c words at start count first here₀ registers₀ delay₀ i₀ here registers delay i = count - i
+follow-requires : tie.Need-follow-requires
+follow-requires c κs = (c .before .before .pre .0, c .before .before .pre .1, c .before .before .pre .2, c .before .before .pre .4 .within, c .before .before .pre .3)
 
-returns : tie.Need-returns Inv-loop μ-loop
-returns c = path-out (c .before .before .before .args .s .now) _ (c .before .before .before .args .words .now) _ _ _ (c .before .before .before .pre .4) (omega arith)
+enum-known-end : tie.Need-enum-known-end
+enum-known-end c = search needs
 
-read-block-requires : tie.Need-read-block-requires Inv-loop μ-loop
-read-block-requires c κs = search needs
-
-enum-known-first : tie.Need-enum-known-first Inv-loop μ-loop
-enum-known-first c = search needs
-
-enum-told : tie.Need-enum-told Inv-loop μ-loop
+enum-told : tie.Need-enum-told
 enum-told c = search needs
 
-returns-2 : tie.Need-returns-2 Inv-loop μ-loop
-returns-2 c = absurd (block-refused (c .before .before .before .before .before .before .args .s .now) (c .before .before .before .before .before .before .args .start) (c .before .before .read-block .result) _ (c .before .before .read-block .ensures) (c .enum-told .given .1) (c .before .before .before .before .before .before .pre .0 .block (c .before .before .before .before .before .before .args .start) (omega arith)))
+returns : tie.Need-returns
+returns c = path-stuck (c .before .before .before .before .before .args .s .now) _ (c .before .before .before .before .before .args .words .now) _ _ _ (c .before .before .before .before .before .pre .4) (c .before .before .follow .result) (c .before .before .follow .ensures) (c .enum-told .given .1)
 
-loop-holds : tie.Need-loop-holds Inv-loop μ-loop
-loop-holds c = (omega arith, follow-start (c .before .before .before .before .before .before .before .args .s .now) _ _ _ _ _ (omega arith) (block-read (c .before .before .before .before .before .before .before .args .s .now) (c .before .before .before .before .before .before .before .args .start) (c .before .before .before .read-block .result) _ _ _ (c .before .before .before .read-block .ensures) (c .before .first .given .1) .0))
+returns-2 : tie.Need-returns-2
+returns-2 c = path-quick (c .before .before .before .before .before .before .before .args .s .now) _ (c .before .before .before .before .before .before .before .args .words .now) _ _ _ (c .before .before .before .before .before .before .before .pre .4) _ _ _ (followed (c .before .before .before .before .before .before .before .args .s .now) (drop (c .before .before .before .before .before .before .before .args .at + 3) (c .before .before .before .before .before .before .before .args .words .now)) (c .before .before .before .before .before .before .before .args .start) (c .before .before .before .before .before .before .before .args .count) (c .before .before .before .before .follow .result) _ _ _ (c .before .before .before .before .follow .ensures) (c .before .before .end .given .1)) (omega arith)
 
-add-word-at : tie.Need-add-word-at Inv-loop μ-loop
-add-word-at c = search needs
+add-t16 : tie.Need-add-t16
+add-t16 c = let f = followed (c .before .before .before .before .before .before .before .args .s .now) (drop (c .before .before .before .before .before .before .before .args .at + 3) (c .before .before .before .before .before .before .before .args .words .now)) (c .before .before .before .before .before .before .before .args .start) (c .before .before .before .before .before .before .before .args .count) (c .before .before .before .before .follow .result) _ _ _ (c .before .before .before .before .follow .ensures) (c .before .before .end .given .1) in
+    omega (arith, f .few, c .before .before .before .before .before .before .before .pre .4 .within)
 
-add-word-at-2 : tie.Need-add-word-at-2 Inv-loop μ-loop
-add-word-at-2 c = search needs
+add-t13 : tie.Need-add-t13
+add-t13 c = search needs
 
-word-at-requires : tie.Need-word-at-requires Inv-loop μ-loop
-word-at-requires c κs = search needs
+add-t17 : tie.Need-add-t17
+add-t17 c = search needs
 
-lead-requires : tie.Need-lead-requires Inv-loop μ-loop
-lead-requires c κs = search needs
-
-enum-known-to : tie.Need-enum-known-to Inv-loop μ-loop
-enum-known-to c = search needs
-
-enum-told-2 : tie.Need-enum-told-2 Inv-loop μ-loop
-enum-told-2 c = search needs
-
-returns-3 : tie.Need-returns-3 Inv-loop μ-loop
-returns-3 c = path-stuck (c .before .before .before .before .before .before .before .before .before .before .before .before .before .args .s .now) _ (c .before .before .before .before .before .before .before .before .before .before .before .before .before .args .words .now) _ _ _ (c .before .before .before .before .before .before .before .before .before .before .before .before .before .pre .4) _ _ _ _ _ (c .before .before .before .before .before .loop .inv .1) (c .before .before .before .before .loop-test .taken) (c .before .before .before .word-at .ensures .0) (step-refused (c .before .before .before .before .before .before .before .before .before .before .before .before .before .args .s .now) _ _ (c .before .before .lead .result) (c .before .before .lead .ensures) (c .enum-told2 .given .1))
-
-add-registers : tie.Need-add-registers Inv-loop μ-loop
-add-registers c = let g = step-read (c .before .before .before .before .before .before .before .before .before .before .before .before .before .before .args .s .now) _ _ (c .before .before .before .lead .result) _ _ _ (c .before .before .before .lead .ensures) (c .before .to .given .1) in
-    omega (arith, g .few, c .before .before .before .before .before .before .before .before .before .before .before .before .before .before .pre .4 .within, c .before .before .before .before .before .before .loop .inv .1 .few)
-
-add-delay : tie.Need-add-delay Inv-loop μ-loop
-add-delay c = let g = step-read (c .before .before .before .before .before .before .before .before .before .before .before .before .before .before .args .s .now) _ _ (c .before .before .before .lead .result) _ _ _ (c .before .before .before .lead .ensures) (c .before .to .given .1) in
-    omega (arith, g .short, c .before .before .before .before .before .before .before .before .before .before .before .before .before .before .pre .4 .within, c .before .before .before .before .before .before .loop .inv .1 .short)
-
-add-i : tie.Need-add-i Inv-loop μ-loop
-add-i c = search needs
-
-loop-less : tie.Need-loop-less Inv-loop μ-loop
-loop-less c = search needs
-
-loop-again : tie.Need-loop-again Inv-loop μ-loop
-loop-again c = (omega arith, path-step (c .before .before .before .before .before .before .before .before .before .before .before .before .before .before .args .s .now) (c .before .before .before .before .before .before .before .before .before .before .before .before .before .before .args .c) (c .before .before .before .before .before .before .before .before .before .before .before .before .before .before .args .words .now) _ _ _ (c .before .before .before .before .before .before .before .before .before .before .before .before .before .before .pre .4) _ _ _ _ _ _ _ _ (c .before .before .before .before .before .before .loop .inv .1) (c .before .before .before .before .before .loop-test .taken) (c .before .before .before .before .word-at .ensures .0) (step-read (c .before .before .before .before .before .before .before .before .before .before .before .before .before .before .args .s .now) _ _ (c .before .before .before .lead .result) _ _ _ (c .before .before .before .lead .ensures) (c .before .to .given .1)))
-
-returns-4 : tie.Need-returns-4 Inv-loop μ-loop
-returns-4 c = path-quick (c .before .before .before .before .before .before .before .before .before .before .args .s .now) _ (c .before .before .before .before .before .before .before .before .before .before .args .words .now) _ _ _ (c .before .before .before .before .before .before .before .before .before .before .pre .4) _ _ _ _ (c .before .before .loop .inv .1) (omega arith) (omega arith)
-
-add-t25 : tie.Need-add-t25 Inv-loop μ-loop
-add-t25 c = search needs
-
-add-t26 : tie.Need-add-t26 Inv-loop μ-loop
-add-t26 c = search needs
-
-add-t27 : tie.Need-add-t27 Inv-loop μ-loop
-add-t27 c = search needs
-
-returns-5 : tie.Need-returns-5 Inv-loop μ-loop
-returns-5 c = path-good (c .before .before .before .before .before .before .before .before .before .before .args .s .now) _ (c .before .before .before .before .before .before .before .before .before .before .args .words .now) _ _ _ (c .before .before .before .before .before .before .before .before .before .before .pre .4) _ _ _ _ (c .before .before .loop .inv .1) (omega arith) (omega arith)
+returns-3 : tie.Need-returns-3
+returns-3 c = path-good (c .before .before .before .before .before .before .before .args .s .now) _ (c .before .before .before .before .before .before .before .args .words .now) _ _ _ (c .before .before .before .before .before .before .before .pre .4) _ _ _ (followed (c .before .before .before .before .before .before .before .args .s .now) (drop (c .before .before .before .before .before .before .before .args .at + 3) (c .before .before .before .before .before .before .before .args .words .now)) (c .before .before .before .before .before .before .before .args .start) (c .before .before .before .before .before .before .before .args .count) (c .before .before .before .before .follow .result) _ _ _ (c .before .before .before .before .follow .ensures) (c .before .before .end .given .1)) (omega arith)
 
 pub path-link-spec : {M : Type 1} → statement M
 path-link-spec =
     tie.close
     (tie.spec
-    Inv-loop
-    μ-loop
-    returns
-    read-block-requires
-    enum-known-first
+    add-follow
+    follow-requires
+    enum-known-end
     enum-told
+    returns
     returns-2
-    loop-holds
-    add-word-at
-    add-word-at-2
-    word-at-requires
-    lead-requires
-    enum-known-to
-    enum-told-2
-    returns-3
-    add-registers
-    add-delay
-    add-i
-    loop-less
-    loop-again
-    returns-4
-    add-t25
-    add-t26
-    add-t27
-    returns-5)
+    add-t16
+    add-t13
+    add-t17
+    returns-3)
