@@ -3,11 +3,11 @@
 use mathlib.Core.Path.{_≡_, refl, sym, ap, _∙_, subst}
 use mathlib.Core.Bool.{Bool, true, false, _&&_, cond, true≢false}
 use mathlib.Core.List.{List, [], _∷_, _++_}
-use Prim.Native.Nat.{ℕ, suc, _+_, _≤_, _<_}
+use Prim.Native.Nat.{ℕ, _≤_, _<_}
 use native.Mathlib.Omega.{arith}
 use borrow.Author.Tests.{ltb-true, leb-true, eqb-true, lt-ltb, le-leb, eq-eqb}
 use lib.Dec.{T, ltb, leb, eqb}
-use lib.IntN.{ℤ, pos, negsuc, negℤ}
+use lib.IntN.{ℤ, pos, negℤ}
 use lib.Signed.{ltZ, _<ℤ_}
 use lib.ListN.{length, take, drop, length-append, take-append-drop}
 use lib.Seq.{take-append-seam, drop-append-seam, length-take-le}
@@ -30,7 +30,7 @@ both-right false b h = absurd (true≢false (sym h))
 both-true : (a b : Bool) → a ≡ true → b ≡ true → (a && b) ≡ true
 both-true a b p q = rw (p, q) refl
 
--- what both outcomes of a test have, its choice has
+-- what both outcomes have, the choice by a test has
 choice : {A : Type 0} (P : A → Type 0) (b : Bool) (x y : A) → (b ≡ true → P x) → P y → P (cond b x y)
 choice P true x y h k = h refl
 choice P false x y h k = k
@@ -43,12 +43,8 @@ true-of true h = refl
 true-of false h = absurd h
 
 -- ---- reading
-link-long : (l : Link) → 2 ≤ length (wordsOf l)
-link-long (wire j) = omega arith
-link-long (path u ws) = omega arith
-link-long (upper b) = omega arith
-link-long (lower b) = omega arith
-link-long (ceiling j) = omega arith
+shorter : (l : Link) (r : List ℕ) → length r < length (wordsOf l ++ r)
+shorter l r = omega (arith, length-append (wordsOf l) r, length-append (wordsOf l) [], spelt-long l [])
 
 -- what is read are the words
 abbrev LeadSays : List ℕ → Lead → Type 0
@@ -69,18 +65,21 @@ path-says u (count ∷ r) = path-lead-says u count r (leb count (length r)) refl
 kind-says : (k x : ℕ) (r : List ℕ) → LeadSays (k ∷ x ∷ r) (kindAt k x r)
 kind-says k x r =
     let S : Lead → Type 0 = LeadSays (k ∷ x ∷ r) in
-    choice S (eqb k 1) (lead (wire x) r) (rest2) (λ e. rw (eqb-true k 1 e) refl)
-      (choice S (eqb k 2) (pathAt x r) rest3 (λ e. rw (eqb-true k 2 e) (path-says x r))
-        (choice S (eqb k 3) (lead (upper x) r) rest4 (λ e. rw (eqb-true k 3 e) refl)
-          (choice S (eqb k 4) (lead (lower x) r) rest5 (λ e. rw (eqb-true k 4 e) refl)
-            (choice S (eqb k 5) (lead (ceiling x) r) none (λ e. rw (eqb-true k 5 e) refl) tt))))
+    choice S (eqb k 1) (lead (wire x) r) rest2 (λ e. rw (eqb-true k 1 e) refl)
+    (choice S (eqb k 2) (pathAt x r) rest3 (λ e. rw (eqb-true k 2 e) (path-says x r))
+    (choice S (eqb k 3) (lead (upper x) r) rest4 (λ e. rw (eqb-true k 3 e) refl)
+    (choice S (eqb k 4) (lead (lower x) r) rest5 (λ e. rw (eqb-true k 4 e) refl)
+    (choice S (eqb k 5) (lead (ceiling x) r) none (λ e. rw (eqb-true k 5 e) refl) tt))))
   where
     rest5 : Lead
     rest5 = cond (eqb k 5) (lead (ceiling x) r) none
+
     rest4 : Lead
     rest4 = cond (eqb k 4) (lead (lower x) r) rest5
+
     rest3 : Lead
     rest3 = cond (eqb k 3) (lead (upper x) r) rest4
+
     rest2 : Lead
     rest2 = cond (eqb k 2) (pathAt x r) rest3
 
@@ -128,12 +127,12 @@ from-told (f ∷ fuel) l [] h = refl
 from-told (f ∷ fuel) l (m ∷ ls) h =
     from-more f fuel l (allWords (m ∷ ls)) (omega (arith, spelt-long m (allWords ls)))
     ∙ ap (λ (x : Lead). before l (linksFrom fuel x)) (lead-told m (allWords ls))
-    ∙ ap (before l) (from-told fuel m ls (omega (arith, length-append (wordsOf m) (allWords ls), link-long m)))
+    ∙ ap (before l) (from-told fuel m ls (omega (arith, shorter m (allWords ls))))
 
 links-told : (l : Link) (ls : List Link) → linksOf (allWords (l ∷ ls)) ≡ links l ls
 links-told l ls =
     ap (linksFrom (allWords (l ∷ ls))) (lead-told l (allWords ls))
-    ∙ from-told (allWords (l ∷ ls)) l ls (omega (arith, length-append (wordsOf l) (allWords ls), link-long l))
+    ∙ from-told (allWords (l ∷ ls)) l ls (shorter l (allWords ls))
 
 -- ---- paths
 -- the one place that ties the test to what a path may pass
@@ -157,8 +156,7 @@ joins-sound s u (j ∷ ws) e =
     let a4 = joinsTest s (s .to j) ws in
     let e1 : (a1 && (a2 && (a3 && a4))) ≡ true = both-right a0 (a1 && (a2 && (a3 && a4))) e in
     let e2 : (a2 && (a3 && a4)) ≡ true = both-right a1 (a2 && (a3 && a4)) e1 in
-    let e3 : (a3 && a4) ≡ true = both-right a2 (a3 && a4) e2 in
-    (
+    let e3 : (a3 && a4) ≡ true = both-right a2 (a3 && a4) e2 in (
       ltb-true u (s .n) (both-left a0 (a1 && (a2 && (a3 && a4))) e),
       ltb-true j (s .m) (both-left a1 (a2 && (a3 && a4)) e1),
       eqb-true (s .from j) u (both-left a2 (a3 && a4) e2),
