@@ -5,3 +5,4 @@ pub mod Follow
 pub mod Chain
 pub mod Question
 pub mod Out
+pub mod Test
