@@ -1,8 +1,14 @@
 // The questions: for each a function that asks it and writes its lines, and a branch in `question`.
 ghost use Prim.Native.Nat.{_≤_};
+ghost use lib.ListN.{length};
+use crate::given::lags;
+use crate::given::words;
 use crate::lent::kept;
+use crate::lent::kept_bytes;
 use crate::lent::marked;
+use crate::lent::marked_bytes;
 use crate::out::byte;
+use crate::out::bytes;
 use crate::out::list;
 use crate::out::next_number;
 use crate::out::number;
@@ -41,8 +47,8 @@ fn entries(sheet: &[u8], length: usize) -> usize
 fn kept_line(
     out: &mut [u8; 4096],
     used: &mut usize,
-    registers: &[u32; 4200],
-    delays: &[u32; 4200],
+    registers: &[u32; 4300],
+    delays: &[u32; 4300],
     r: usize,
     d: usize,
 ) {
@@ -59,13 +65,13 @@ fn kept_line(
 fn table_lines(
     out: &mut [u8; 4096],
     used: &mut usize,
-    registers: &[u32; 4200],
-    delays: &[u32; 4200],
+    registers: &[u32; 4300],
+    delays: &[u32; 4300],
     r: usize,
     d: usize,
     refused: bool,
 )
-    requires { ⌜ (r ≤ 4200) × (d ≤ 4200) ⌝ }
+    requires { ⌜ (r ≤ 4300) × (d ≤ 4300) ⌝ }
 {
     if refused {
         kept_line(out, used, registers, delays, 0, 0);
@@ -77,7 +83,7 @@ fn table_lines(
 }
 
 fn table(out: &mut [u8; 4096], used: &mut usize, sheet: &[u8], a: usize, b: usize)
-    requires { ⌜ (a ≤ 4200) × (b ≤ 4200) ⌝ }
+    requires { ⌜ (a ≤ 4300) × (b ≤ 4300) ⌝ }
 {
     let mut registers = marked();
     let mut delays = marked();
@@ -87,6 +93,57 @@ fn table(out: &mut [u8; 4096], used: &mut usize, sheet: &[u8], a: usize, b: usiz
     let r = entries(sheet, a);
     let d = entries(sheet, b);
     table_lines(out, used, &registers, &delays, r, d, refused);
+}
+
+// The lines after the head of a move: the moved sheet where there is one, and whether the rest was kept.
+fn moved_lines(
+    out: &mut [u8; 4096],
+    used: &mut usize,
+    moved: &[u8; 4300],
+    count: usize,
+    refused: bool,
+)
+    requires { ⌜ count ≤ 4300 ⌝ }
+{
+    let mut first = 0;
+    if !refused {
+        bytes(out, used, b"moved", moved, count);
+        first = count;
+    }
+    if kept_bytes(moved, first) {
+        text(out, used, b"kept\n");
+        return;
+    }
+    text(out, used, b"changed\n");
+}
+
+// How many bytes of a list of `length` a moved sheet takes: as many as the sheet, and never more than there are.
+fn room(sheet: &[u8], length: usize) -> usize
+    ensures { λ r. ⌜ r ≤ length ⌝ }
+{
+    if sheet.len() < length {
+        return sheet.len();
+    }
+    length
+}
+
+fn move_by(out: &mut [u8; 4096], used: &mut usize, sheet: &[u8], more: &[u8], a: usize, b: usize)
+    requires { ⌜ (a ≤ 4300) × (b ≤ 4300) × (length (now more) ≤ 8600) ⌝ }
+{
+    let lags = lags(more);
+    let mut moved = marked_bytes();
+    let answer = moves::move_by(sheet, &lags[..a], &mut moved[..b]);
+    let refused = answer.number != 0;
+    head(out, used, 4, answer);
+    moved_lines(out, used, &moved, room(sheet, b), refused);
+}
+
+fn check_loop(out: &mut [u8; 4096], used: &mut usize, sheet: &[u8], more: &[u8], a: usize, c: u32)
+    requires { ⌜ (a ≤ 4300) × (length (now more) ≤ 8600) ⌝ }
+{
+    let words = words(more);
+    let answer = loops::check_loop(sheet, c, &words[..a]);
+    head(out, used, 7, answer);
 }
 
 // Asks the question with this code: of the sheet, the bytes after it, the lengths a and b and the period c. False where there is none.
@@ -100,7 +157,7 @@ pub fn question(
     b: usize,
     c: u32,
 ) -> bool
-    requires { ⌜ (a ≤ 4200) × (b ≤ 4200) ⌝ }
+    requires { ⌜ (a ≤ 4300) × (b ≤ 4300) × (length (now more) ≤ 8600) ⌝ }
 {
     if code == 1 {
         check(out, used, sheet);
@@ -108,6 +165,14 @@ pub fn question(
     }
     if code == 3 {
         table(out, used, sheet, a, b);
+        return true;
+    }
+    if code == 4 {
+        move_by(out, used, sheet, more, a, b);
+        return true;
+    }
+    if code == 7 {
+        check_loop(out, used, sheet, more, a, c);
         return true;
     }
     false

@@ -9,8 +9,8 @@ use sheet::bytes::u32_at;
 
 // The bytes after the sheet: a move has its a lags there and a loop check its a words.
 fn after(code: u32, a: usize) -> usize
-    requires { ⌜ a ≤ 4200 ⌝ }
-    ensures { λ r. ⌜ r ≤ 8400 ⌝ }
+    requires { ⌜ a ≤ 4300 ⌝ }
+    ensures { λ r. ⌜ r ≤ 8600 ⌝ }
 {
     if code == 4 {
         return 2 * a;
@@ -32,10 +32,10 @@ fn record(out: &mut [u8; 4096], used: &mut usize, rest: &[u8]) -> usize
     let a = u16_at(rest, 4) as usize;
     let b = u16_at(rest, 6) as usize;
     // no question lends a longer list
-    if a > 4200 {
+    if a > 4300 {
         return 0;
     }
-    if b > 4200 {
+    if b > 4300 {
         return 0;
     }
     let middle = 12 + u16_at(rest, 2) as usize;

@@ -1,35 +1,66 @@
-// The lent lists of u32: what they hold before a call, and whether they still do.
-ghost use Prim.Native.Nat.{_+_, _<_};
+// The lent lists: what they hold before a call, and whether they still do.
+ghost use Prim.Native.Nat.{_<_};
 ghost use mathlib.Core.Path.{_≡_};
 ghost use lib.ListN.{length};
 ghost use Rattle.sheet.specs.Rules.{Told};
-ghost use Rattle.compare.specs.Lent.{KeptFrom};
+ghost use Rattle.compare.specs.Lent.{KeptFrom, byteBefore, entryBefore};
 
-// What entry i holds before a call: in no table, so that a number that was written shows.
+// What entry i of a list of u32 holds before a call: in no table, so that a number that was written shows.
 fn before(i: usize) -> u32
-    requires { ⌜ i < 4200 ⌝ }
-    ensures { λ r. ⌜ r ≡ 3000000000 + i ⌝ }
+    requires { ⌜ i < 4300 ⌝ }
+    ensures { λ r. ⌜ r ≡ entryBefore i ⌝ }
 {
     3000000000 + i as u32
 }
 
 // A list to lend, made anew for every call.
-pub fn marked() -> [u32; 4200]
-    ensures { λ r. ⌜ (length r ≡ 4200) × KeptFrom 0 r ⌝ }
+pub fn marked() -> [u32; 4300]
+    ensures { λ r. ⌜ (length r ≡ 4300) × KeptFrom entryBefore 0 r ⌝ }
 {
-    let mut list = [0u32; 4200];
-    for i in 0..4200usize {
+    let mut list = [0u32; 4300];
+    for i in 0..4300usize {
         list[i] = before(i);
     }
     list
 }
 
 // Every entry from `first` on still holds what it held before the call.
-pub fn kept(list: &[u32; 4200], first: usize) -> bool
-    ensures { λ r. ⌜ Told (KeptFrom first (now (list .entry))) r ⌝ }
+pub fn kept(list: &[u32; 4300], first: usize) -> bool
+    ensures { λ r. ⌜ Told (KeptFrom entryBefore first (now (list .entry))) r ⌝ }
 {
-    for i in first..4200usize {
+    for i in first..4300usize {
         if list[i] != before(i) {
+            return false;
+        }
+    }
+    true
+}
+
+// What byte i of a sheet to fill holds before a call: bytes in a row differ, so that a shifted copy shows.
+fn byte_before(i: usize) -> u8
+    requires { ⌜ i < 4300 ⌝ }
+    ensures { λ r. ⌜ r ≡ byteBefore i ⌝ }
+{
+    ((7 * i + 3) % 256) as u8
+}
+
+// A sheet to lend, made anew for every call.
+pub fn marked_bytes() -> [u8; 4300]
+    ensures { λ r. ⌜ (length r ≡ 4300) × KeptFrom byteBefore 0 r ⌝ }
+{
+    let mut list = [0u8; 4300];
+    for i in 0..4300usize {
+        list[i] = byte_before(i);
+    }
+    list
+}
+
+// Every byte from `first` on still holds what it held before the call.
+pub fn kept_bytes(list: &[u8; 4300], first: usize) -> bool
+    ensures { λ r. ⌜ Told (KeptFrom byteBefore first (now (list .entry))) r ⌝ }
+{
+    for i in first..4300usize {
+        if list[i] != byte_before(i) {
             return false;
         }
     }

@@ -36,14 +36,35 @@ pub fn list(
     out: &mut [u8; 4096],
     used: &mut usize,
     name: &[u8],
-    entries: &[u32; 4200],
+    entries: &[u32; 4300],
     count: usize,
 )
-    requires { ⌜ count ≤ 4200 ⌝ }
+    requires { ⌜ count ≤ 4300 ⌝ }
 {
     text(out, used, name);
     for i in 0..count {
         next_number(out, used, entries[i]);
+    }
+    byte(out, used, b'\n');
+}
+
+fn next_byte(out: &mut [u8; 4096], used: &mut usize, x: u8) {
+    next_number(out, used, x as u32);
+}
+
+// The same of a list of bytes.
+pub fn bytes(
+    out: &mut [u8; 4096],
+    used: &mut usize,
+    name: &[u8],
+    entries: &[u8; 4300],
+    count: usize,
+)
+    requires { ⌜ count ≤ 4300 ⌝ }
+{
+    text(out, used, name);
+    for i in 0..count {
+        next_byte(out, used, entries[i]);
     }
     byte(out, used, b'\n');
 }

@@ -1,25 +1,24 @@
 -- One more entry: what a turn of a loop over a lent list adds to what is known of the entries passed.
 use mathlib.Core.Path.{_≡_, _∙_}
 use mathlib.Core.List.{List}
-use mathlib.Core.Logic.{⊎-elim}
 use Prim.Native.Nat.{ℕ, _+_, _<_, _≤_}
 use native.Mathlib.Decide.{ℕ-discrete}
 use native.Mathlib.Omega.{arith}
 use lib.ListN.{length, getD, set}
 use lib.Seq.{getD-set-same, getD-set-other}
 
-module _ (l : List ℕ) (first i : ℕ) where
-  kept-at : getD l i 0 ≡ 3000000000 + i → (k : ℕ) → (k < i → getD l k 0 ≡ 3000000000 + k) → k < i + 1 → Dec (k ≡ i) → getD l k 0 ≡ 3000000000 + k
+module _ (f : ℕ → ℕ) (l : List ℕ) (first i : ℕ) where
+  kept-at : getD l i 0 ≡ f i → (k : ℕ) → (k < i → getD l k 0 ≡ f k) → k < i + 1 → Dec (k ≡ i) → getD l k 0 ≡ f k
   kept-at here k below h (yes e) = rw e here
   kept-at here k below h (no e) = below (omega arith)
 
-  pub kept-step : ((k : ℕ) → first ≤ k → k < i → getD l k 0 ≡ 3000000000 + k) → getD l i 0 ≡ 3000000000 + i → (k : ℕ) → first ≤ k → k < i + 1 → getD l k 0 ≡ 3000000000 + k
-  kept-step all here k f h = kept-at here k (all k f) h (ℕ-discrete k i)
+  pub kept-step : ((k : ℕ) → first ≤ k → k < i → getD l k 0 ≡ f k) → getD l i 0 ≡ f i → (k : ℕ) → first ≤ k → k < i + 1 → getD l k 0 ≡ f k
+  kept-step all here k f′ h = kept-at here k (all k f′) h (ℕ-discrete k i)
 
-module _ (l : List ℕ) (i x : ℕ) (fits : i < length l) (right : x ≡ 3000000000 + i) where
-  marked-at : (k : ℕ) → (k < i → getD l k 0 ≡ 3000000000 + k) → k < i + 1 → Dec (k ≡ i) → getD (set l i x) k 0 ≡ 3000000000 + k
+module _ (f : ℕ → ℕ) (l : List ℕ) (i x : ℕ) (fits : i < length l) (right : x ≡ f i) where
+  marked-at : (k : ℕ) → (k < i → getD l k 0 ≡ f k) → k < i + 1 → Dec (k ≡ i) → getD (set l i x) k 0 ≡ f k
   marked-at k below h (yes e) = rw e (getD-set-same l i x 0 fits ∙ right)
   marked-at k below h (no e) = getD-set-other l i k x 0 e ∙ below (omega arith)
 
-  pub marked-step : ((k : ℕ) → k < i → getD l k 0 ≡ 3000000000 + k) → (k : ℕ) → k < i + 1 → getD (set l i x) k 0 ≡ 3000000000 + k
+  pub marked-step : ((k : ℕ) → k < i → getD l k 0 ≡ f k) → (k : ℕ) → k < i + 1 → getD (set l i x) k 0 ≡ f k
   marked-step all k h = marked-at k (all k) h (ℕ-discrete k i)

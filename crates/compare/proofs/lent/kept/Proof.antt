@@ -2,17 +2,18 @@
 use borrow.Author.Needs.{needs}
 use native.Mathlib.Omega.{arith}
 use mathlib.Core.Path.{_≡_}
-use Prim.Native.Nat.{ℕ, _+_, _-_, _<_, _≤_}
+use Prim.Native.Nat.{ℕ, _-_, _<_, _≤_}
 use lib.ListN.{getD}
+use Rattle.compare.specs.Lent.{entryBefore}
 use Rattle.compare.specs.Laws.Lent.{kept-step}
 use Rattle.compare.proofs.lent.kept.Statement.{statement}
 use Rattle.compare.proofs.lent.kept.Tie as tie
 
 abbrev Inv-loop : tie.InvT-loop
-Inv-loop list first i₀ i = (first ≤ i) × ((k : ℕ) → first ≤ k → k < i → getD list k 0 ≡ 3000000000 + k)
+Inv-loop list first i₀ i = (first ≤ i) × ((k : ℕ) → first ≤ k → k < i → getD list k 0 ≡ entryBefore k)
 
 abbrev μ-loop : tie.MeasureT-loop
-μ-loop list first i₀ i = 4200 - i
+μ-loop list first i₀ i = 4300 - i
 
 loop-holds : tie.Need-loop-holds Inv-loop μ-loop
 loop-holds c = (omega arith, λ k f h. omega arith)
@@ -36,7 +37,7 @@ loop-less : tie.Need-loop-less Inv-loop μ-loop
 loop-less c = search needs
 
 loop-again : tie.Need-loop-again Inv-loop μ-loop
-loop-again c = (omega arith, kept-step (c .before .before .before .before .before .args .list .now) (c .before .before .before .before .before .args .first) (c .before .before .before .before .loop .i) (c .before .before .before .before .loop .inv .1) (omega arith))
+loop-again c = (omega arith, kept-step entryBefore (c .before .before .before .before .before .args .list .now) (c .before .before .before .before .before .args .first) (c .before .before .before .before .loop .i) (c .before .before .before .before .loop .inv .1) (omega arith))
 
 returns-2 : tie.Need-returns-2 Inv-loop μ-loop
 returns-2 c = λ k f h. c .before .loop .inv .1 k f (omega arith)

@@ -2,17 +2,18 @@
 use borrow.Author.Needs.{needs}
 use native.Mathlib.Omega.{arith}
 use mathlib.Core.Path.{_≡_}
-use Prim.Native.Nat.{ℕ, _+_, _-_, _<_, _≤_}
+use Prim.Native.Nat.{ℕ, _-_, _<_, _≤_}
 use lib.ListN.{length, getD}
+use Rattle.compare.specs.Lent.{entryBefore}
 use Rattle.compare.specs.Laws.Lent.{marked-step}
 use Rattle.compare.proofs.lent.marked.Statement.{statement}
 use Rattle.compare.proofs.lent.marked.Tie as tie
 
 abbrev Inv-loop : tie.InvT-loop
-Inv-loop list₀ i₀ list i = (i ≤ 4200) × (length list ≡ length list₀) × ((k : ℕ) → k < i → getD list k 0 ≡ 3000000000 + k)
+Inv-loop list₀ i₀ list i = (i ≤ 4300) × (length list ≡ length list₀) × ((k : ℕ) → k < i → getD list k 0 ≡ entryBefore k)
 
 abbrev μ-loop : tie.MeasureT-loop
-μ-loop list₀ i₀ list i = 4200 - i
+μ-loop list₀ i₀ list i = 4300 - i
 
 loop-holds : tie.Need-loop-holds Inv-loop μ-loop
 loop-holds c = (search needs, search needs, λ k h. absurd (omega arith))
@@ -33,7 +34,7 @@ loop-less : tie.Need-loop-less Inv-loop μ-loop
 loop-less c = search needs
 
 loop-again : tie.Need-loop-again Inv-loop μ-loop
-loop-again c = (omega arith, search needs, marked-step (c .before .before .loop .list) (c .before .before .loop .i) (c .before2 .result) (omega arith) (c .before2 .ensures) (c .before .before .loop .inv .2))
+loop-again c = (omega arith, search needs, marked-step entryBefore (c .before .before .loop .list) (c .before .before .loop .i) (c .before2 .result) (omega arith) (c .before2 .ensures) (c .before .before .loop .inv .2))
 
 returns : tie.Need-returns Inv-loop μ-loop
 returns c = (omega arith, λ k f h. c .before .loop .inv .2 k (omega arith))
