@@ -2,6 +2,7 @@
 ghost use mathlib.Core.Path.{_≡_};
 ghost use Prim.Native.Nat.{_≤_};
 ghost use lib.ListN.{length};
+ghost use Rattle.compare.specs.Given.{LagsOf, WordsOf};
 use sheet::bytes::excess_at;
 use sheet::bytes::u16_at;
 use sheet::lag::lag_of;
@@ -9,7 +10,7 @@ use sheet::lag::lag_of;
 // As long as the longest list; entries that the record has not are 0 and never lent.
 pub fn lags(more: &[u8]) -> [i16; 4300]
     requires { ⌜ length (now more) ≤ 8600 ⌝ }
-    ensures { λ r. ⌜ length r ≡ 4300 ⌝ }
+    ensures { λ r. ⌜ (length r ≡ 4300) × LagsOf (now (more .entry)) r ⌝ }
 {
     let mut list = [0i16; 4300];
     for i in 0..more.len() / 2 {
@@ -20,7 +21,7 @@ pub fn lags(more: &[u8]) -> [i16; 4300]
 
 pub fn words(more: &[u8]) -> [u16; 4300]
     requires { ⌜ length (now more) ≤ 8600 ⌝ }
-    ensures { λ r. ⌜ length r ≡ 4300 ⌝ }
+    ensures { λ r. ⌜ (length r ≡ 4300) × WordsOf (now (more .entry)) r ⌝ }
 {
     let mut list = [0u16; 4300];
     for i in 0..more.len() / 2 {

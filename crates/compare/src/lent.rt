@@ -55,11 +55,11 @@ pub fn marked_bytes() -> [u8; 4300]
     list
 }
 
-// Every byte from `first` on still holds what it held before the call.
-pub fn kept_bytes(list: &[u8; 4300], first: usize) -> bool
-    ensures { λ r. ⌜ Told (KeptFrom byteBefore first (now (list .entry))) r ⌝ }
+// Every byte from `start` on still holds what it held before the call.
+pub fn kept_bytes(list: &[u8; 4300], start: usize) -> bool
+    ensures { λ r. ⌜ Told (KeptFrom byteBefore start (now (list .entry))) r ⌝ }
 {
-    for i in first..4300usize {
+    for i in start..4300usize {
         if list[i] != byte_before(i) {
             return false;
         }

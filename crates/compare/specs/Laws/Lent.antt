@@ -15,10 +15,11 @@ module _ (f : ℕ → ℕ) (l : List ℕ) (first i : ℕ) where
   pub kept-step : ((k : ℕ) → first ≤ k → k < i → getD l k 0 ≡ f k) → getD l i 0 ≡ f i → (k : ℕ) → first ≤ k → k < i + 1 → getD l k 0 ≡ f k
   kept-step all here k f′ h = kept-at here k (all k f′) h (ℕ-discrete k i)
 
-module _ (f : ℕ → ℕ) (l : List ℕ) (i x : ℕ) (fits : i < length l) (right : x ≡ f i) where
-  marked-at : (k : ℕ) → (k < i → getD l k 0 ≡ f k) → k < i + 1 → Dec (k ≡ i) → getD (set l i x) k 0 ≡ f k
-  marked-at k below h (yes e) = rw e (getD-set-same l i x 0 fits ∙ right)
-  marked-at k below h (no e) = getD-set-other l i k x 0 e ∙ below (omega arith)
+-- For lists of any kind of number; nothing is where the list ends.
+module _ {A : Type 0} (nothing : A) (f : ℕ → A) (l : List A) (i : ℕ) (x : A) (fits : i < length l) (right : x ≡ f i) where
+  marked-at : (k : ℕ) → (k < i → getD l k nothing ≡ f k) → k < i + 1 → Dec (k ≡ i) → getD (set l i x) k nothing ≡ f k
+  marked-at k below h (yes e) = rw e (getD-set-same l i x nothing fits ∙ right)
+  marked-at k below h (no e) = getD-set-other l i k x nothing e ∙ below (omega arith)
 
-  pub marked-step : ((k : ℕ) → k < i → getD l k 0 ≡ f k) → (k : ℕ) → k < i + 1 → getD (set l i x) k 0 ≡ f k
+  pub marked-step : ((k : ℕ) → k < i → getD l k nothing ≡ f k) → (k : ℕ) → k < i + 1 → getD (set l i x) k nothing ≡ f k
   marked-step all k h = marked-at k (all k) h (ℕ-discrete k i)

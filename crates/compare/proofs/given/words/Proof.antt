@@ -1,22 +1,24 @@
--- Word after word; the list stays as long as it is.
+-- Every word below i is read.
 use borrow.Author.Needs.{needs}
 use native.Mathlib.Omega.{arith}
 use borrow.Author.Needs.{needs}
 use native.Mathlib.Omega.{arith}
 use mathlib.Core.Path.{_≡_}
-use Prim.Native.Nat.{_-_, _≤_}
-use lib.ListN.{length}
+use Prim.Native.Nat.{ℕ, _*_, _-_, _<_, _≤_}
+use lib.ListN.{length, getD}
+use Rattle.sheet.specs.Bytes.{u16At}
+use Rattle.compare.specs.Laws.Lent.{marked-step}
 use Rattle.compare.proofs.given.words.Statement.{statement}
 use Rattle.compare.proofs.given.words.Tie as tie
 
 abbrev Inv-loop : tie.InvT-loop
-Inv-loop more list₀ i₀ i-end list i = (i ≤ i-end) × (length list ≡ length list₀)
+Inv-loop more list₀ i₀ i-end list i = (i ≤ i-end) × (length list ≡ length list₀) × ((k : ℕ) → k < i → getD list k 0 ≡ u16At more (2 * k))
 
 abbrev μ-loop : tie.MeasureT-loop
 μ-loop more list₀ i₀ i-end list i = i-end - i
 
 loop-holds : tie.Need-loop-holds Inv-loop μ-loop
-loop-holds c = search needs
+loop-holds c = (search needs, search needs, λ k h. absurd (omega arith))
 
 mul-u16-at : tie.Need-mul-u16-at Inv-loop μ-loop
 mul-u16-at c = search needs
@@ -40,10 +42,10 @@ loop-less : tie.Need-loop-less Inv-loop μ-loop
 loop-less c = search needs
 
 loop-again : tie.Need-loop-again Inv-loop μ-loop
-loop-again c = search needs
+loop-again c = (omega arith, search needs, marked-step 0 (λ k. u16At (c .before .before .before .before .args .more .now) (2 * k)) (c .before .before .loop .list) (c .before .before .loop .i) (c .u16-at .result) (omega arith) (c .u16-at .ensures .0) (c .before .before .loop .inv .2))
 
 returns : tie.Need-returns Inv-loop μ-loop
-returns c = omega arith
+returns c = (omega arith, λ k h. c .before .loop .inv .2 k (omega arith))
 
 pub words-spec : {M : Type 1} → statement M
 words-spec =

@@ -1,4 +1,4 @@
--- Every byte from `first` up to i is what it was before the call.
+-- Every byte from `start` up to i is what it was before the call.
 use borrow.Author.Needs.{needs}
 use native.Mathlib.Omega.{arith}
 use borrow.Author.Needs.{needs}
@@ -12,10 +12,10 @@ use Rattle.compare.proofs.lent.kept_bytes.Statement.{statement}
 use Rattle.compare.proofs.lent.kept_bytes.Tie as tie
 
 abbrev Inv-loop : tie.InvT-loop
-Inv-loop list first i₀ i = (first ≤ i) × ((k : ℕ) → first ≤ k → k < i → getD list k 0 ≡ byteBefore k)
+Inv-loop list start i₀ i = (start ≤ i) × ((k : ℕ) → start ≤ k → k < i → getD list k 0 ≡ byteBefore k)
 
 abbrev μ-loop : tie.MeasureT-loop
-μ-loop list first i₀ i = 4300 - i
+μ-loop list start i₀ i = 4300 - i
 
 loop-holds : tie.Need-loop-holds Inv-loop μ-loop
 loop-holds c = (omega arith, λ k f h. omega arith)
@@ -36,7 +36,7 @@ loop-less : tie.Need-loop-less Inv-loop μ-loop
 loop-less c = search needs
 
 loop-again : tie.Need-loop-again Inv-loop μ-loop
-loop-again c = (omega arith, kept-step byteBefore (c .before .before .before .before .before .args .list .now) (c .before .before .before .before .before .args .first) (c .before .before .before .before .loop .i) (c .before .before .before .before .loop .inv .1) (omega arith))
+loop-again c = (omega arith, kept-step byteBefore (c .before .before .before .before .before .args .list .now) (c .before .before .before .before .before .args .start) (c .before .before .before .before .loop .i) (c .before .before .before .before .loop .inv .1) (omega arith))
 
 returns-2 : tie.Need-returns-2 Inv-loop μ-loop
 returns-2 c = λ k f h. c .before .loop .inv .1 k f (omega arith)

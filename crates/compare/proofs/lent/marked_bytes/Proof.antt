@@ -33,7 +33,7 @@ loop-less : tie.Need-loop-less Inv-loop μ-loop
 loop-less c = search needs
 
 loop-again : tie.Need-loop-again Inv-loop μ-loop
-loop-again c = (omega arith, search needs, marked-step byteBefore (c .before .before .loop .list) (c .before .before .loop .i) (c .byte-before .result) (omega arith) (c .byte-before .ensures) (c .before .before .loop .inv .2))
+loop-again c = (omega arith, search needs, marked-step 0 byteBefore (c .before .before .loop .list) (c .before .before .loop .i) (c .byte-before .result) (omega arith) (c .byte-before .ensures) (c .before .before .loop .inv .2))
 
 returns : tie.Need-returns Inv-loop μ-loop
 returns c = (omega arith, λ k f h. c .before .loop .inv .2 k (omega arith))
