@@ -2,12 +2,15 @@
 
 mod entries;
 mod frames;
+mod links;
 mod lists;
 mod loops;
+mod moves;
 mod sounds;
 
 use crate::random::Random;
 use crate::record::{Case, MOST_ENTRIES};
+use crate::sheet::Sheet;
 use std::collections::HashSet;
 
 /// The cases written so far.
@@ -51,7 +54,26 @@ impl Book {
         self.roomy(sheet);
     }
 
-    /// One of the two questions, for kinds with many sheets.
+    /// The move with a list that the sheet just fills, or sometimes a little longer.
+    fn moving(&mut self, sheet: &Sheet, lags: &[i16]) {
+        let bytes = sheet.bytes();
+        let more = if self.rng.chance(30) { self.rng.below(4) } else { 0 };
+        self.moving_into(&bytes, lags, bytes.len() + more);
+    }
+
+    fn moving_into(&mut self, sheet: &[u8], lags: &[i16], room: usize) {
+        self.cases.push(Case::moving(sheet.to_vec(), lags, room));
+    }
+
+    fn a_loop(&mut self, sheet: &Sheet, c: u32, words: &[u16]) {
+        self.loop_bytes(&sheet.bytes(), c, words);
+    }
+
+    fn loop_bytes(&mut self, sheet: &[u8], c: u32, words: &[u16]) {
+        self.cases.push(Case::a_loop(sheet.to_vec(), c, words));
+    }
+
+    /// Check or path table, for kinds with many sheets.
     fn either(&mut self, sheet: &[u8]) {
         if self.rng.chance(50) {
             self.check(sheet);
@@ -63,8 +85,8 @@ impl Book {
 
 pub fn all() -> Vec<Case> {
     let mut book = Book { cases: Vec::new(), rng: Random::new(1) };
-    let kinds: [fn(&mut Book, &mut Random); 5] =
-        [frames::cases, entries::cases, lists::cases, loops::cases, sounds::cases];
+    let kinds: [fn(&mut Book, &mut Random); 7] =
+        [frames::cases, entries::cases, lists::cases, loops::cases, sounds::cases, moves::cases, links::cases];
     for (i, kind) in kinds.iter().enumerate() {
         book.rng = Random::new(1_000 + i as u64);
         kind(&mut book, &mut Random::new(2_000 + i as u64));
@@ -81,8 +103,8 @@ mod tests {
     use crate::record::BEFORE;
 
     #[test]
-    fn every_answer_of_the_two_questions_occurs() {
-        let mut seen = [[0usize; 8]; 4];
+    fn every_answer_occurs() {
+        let mut seen = [[0usize; 13]; 8];
         let mut size = 0;
         let mut text = String::new();
         for case in all() {
@@ -92,7 +114,7 @@ mod tests {
             seen[case.question as usize][case.expect(&mut text).number as usize] += 1;
         }
         assert!(size <= 1_000_000);
-        assert!(text.len() <= 3_000_000);
+        assert!(text.len() <= 2_000_000);
         assert!(!text.contains("changed"));
         // No answer can look like an untouched entry.
         assert!(!text.contains(&format!(" {BEFORE} ")));
@@ -102,6 +124,12 @@ mod tests {
         for number in 0..8 {
             assert!(seen[3][number] >= 30, "table answers {number}");
         }
-        assert_eq!(seen[1][4], 0);
+        for number in 0..10 {
+            assert!(seen[4][number] >= 8, "move answers {number}");
+        }
+        for number in [0, 1, 2, 3, 5, 6, 7, 12] {
+            assert!(seen[7][number] >= 4, "the loop check answers {number}");
+        }
+        assert_eq!((seen[1][4], seen[7][4]), (0, 0));
     }
 }

@@ -2,18 +2,21 @@
 
 mod cases;
 mod known;
+mod links;
 mod paths;
 mod questions;
 mod random;
 mod record;
+mod refute;
 mod shapes;
 mod sheet;
 
 use std::path::Path;
 use std::process::ExitCode;
+use std::str::FromStr;
 use std::{env, fs, io};
 
-const USAGE: &str = "usage: second cases DIR | second one FILE | second move FILE LAG...";
+const USAGE: &str = "usage: second cases DIR | second one FILE | second move FILE LAG... | second loop FILE C WORD...";
 
 fn write_cases(dir: &Path) -> io::Result<()> {
     let (mut input, mut expected) = (Vec::new(), String::new());
@@ -68,6 +71,11 @@ fn show_moved(bytes: &[u8], lags: &[i16]) {
     }
 }
 
+/// Words given as arguments, if each is a number of its kind.
+fn numbers<T: FromStr>(words: &[&str]) -> Option<Vec<T>> {
+    words.iter().map(|word| word.parse().ok()).collect()
+}
+
 fn bad_usage() -> ExitCode {
     eprintln!("{USAGE}");
     ExitCode::from(2)
@@ -80,10 +88,16 @@ fn main() -> ExitCode {
         ["cases", dir] => write_cases(Path::new(dir)),
         ["one", file] => fs::read(file).map(|bytes| ask_one(&bytes)),
         ["move", file, ref lags @ ..] => {
-            let Ok(lags) = lags.iter().map(|l| l.parse()).collect::<Result<Vec<i16>, _>>() else {
+            let Some(lags) = numbers::<i16>(lags) else {
                 return bad_usage();
             };
             fs::read(file).map(|bytes| show_moved(&bytes, &lags))
+        }
+        ["loop", file, c, ref words @ ..] => {
+            let (Ok(c), Some(words)) = (c.parse(), numbers(words)) else {
+                return bad_usage();
+            };
+            fs::read(file).map(|bytes| println!("loop: {}", show(questions::check_loop(&bytes, c, &words))))
         }
         _ => return bad_usage(),
     };

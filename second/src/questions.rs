@@ -1,10 +1,13 @@
 //! The questions: each gives number, place and value and leaves its lists as the scope says.
 
+use crate::links;
 use crate::paths;
 use crate::sheet::{self, refusal, Refusal, Sheet, MOST_REGISTERS};
 
 pub const CHECK: u8 = 1;
 pub const TABLE: u8 = 3;
+pub const MOVE: u8 = 4;
+pub const LOOP: u8 = 7;
 
 #[derive(Clone, Copy, Debug, PartialEq, Eq)]
 pub struct Answer {
@@ -98,6 +101,15 @@ pub fn move_sheet(bytes: &[u8], lags: &[i16], out: &mut [u8]) -> Answer {
             out[..written.len()].copy_from_slice(&written);
             DONE
         }
+        Err(r) => r.into(),
+    }
+}
+
+/// Whether these words are a valid loop at period c; c counts for paths only.
+pub fn check_loop(bytes: &[u8], c: u32, words: &[u16]) -> Answer {
+    match sound_sheet(bytes, &[]) {
+        Ok(sheet) if links::is_valid(&sheet, c, words) => DONE,
+        Ok(_) => refusal(12, 0).into(),
         Err(r) => r.into(),
     }
 }
@@ -256,5 +268,28 @@ mod tests {
             }
         }
         assert!(done > 200);
+    }
+
+    #[test]
+    fn refusals_of_a_loop_check() {
+        let words = [4, 1, 1, 1, 1, 2, 3, 3];
+        let mut s = known::ring_limited((1, 1), (-2, 0));
+        assert_eq!(check_loop(&s.bytes(), 0, &words), DONE);
+        assert_eq!(check_loop(&s.bytes(), 0, &words[2..]), answer(12, 0));
+        assert_eq!(check_loop(&s.bytes(), 0, &[]), answer(12, 0));
+        // The sheet's refusals come first, whatever the words.
+        for words in [&words[..], &[], &[9; 5_000]] {
+            s.wires[0].registers = 0;
+            s.wires[3].registers = 0;
+            assert_eq!(check_loop(&s.bytes(), 0, words), answer(7, 0));
+            s.wires[2].spare = 1;
+            assert_eq!(check_loop(&s.bytes(), 0, words), answer(6, 2));
+            s.blocks[3].delay = 10_001;
+            assert_eq!(check_loop(&s.bytes(), 0, words), answer(5, 3));
+            assert_eq!(check_loop(&s.bytes()[..79], 0, words), answer(3, 0));
+            assert_eq!(check_loop(&[0; 16], 0, words), answer(2, 0));
+            assert_eq!(check_loop(&[], 0, words), answer(1, 0));
+            s = known::ring_limited((1, 1), (-2, 0));
+        }
     }
 }

@@ -1,12 +1,14 @@
 //! One case: its bytes in the case file and its lines in the expected output.
 
-use crate::questions::{self, Answer, CHECK, TABLE};
+use crate::questions::{self, Answer, CHECK, LOOP, MOVE, TABLE};
 use crate::sheet;
-use std::fmt::Write;
+use std::fmt::{Display, Write};
 
 /// What entry i of a lent list of u32 holds before the call, less i.
 pub const BEFORE: u32 = 3_000_000_000;
 pub const MOST_ENTRIES: usize = 4_200;
+/// Lags or words that a record gives.
+pub const MOST_GIVEN: usize = 4_300;
 
 #[derive(Clone, Debug, PartialEq, Eq, Hash)]
 pub struct Case {
@@ -15,6 +17,8 @@ pub struct Case {
     pub a: usize,
     pub b: usize,
     pub c: u32,
+    /// What stands after the sheet: words, or lags as their 16 bits.
+    pub given: Vec<u16>,
 }
 
 fn list_before(length: usize) -> Vec<u32> {
@@ -25,11 +29,16 @@ fn unchanged_from(list: &[u32], first: usize) -> bool {
     (first..list.len()).all(|i| list[i] == BEFORE + i as u32)
 }
 
+/// What byte i of a lent sheet holds before the call.
+fn byte_before(i: usize) -> u8 {
+    ((7 * i + 3) % 256) as u8
+}
+
 fn head(out: &mut String, question: u8, answer: Answer) {
     writeln!(out, "{} {} {} {}", question, answer.number, answer.place, answer.value).unwrap();
 }
 
-fn line(out: &mut String, name: &str, list: &[u32]) {
+fn line<T: Display>(out: &mut String, name: &str, list: &[T]) {
     out.push_str(name);
     for x in list {
         write!(out, " {x}").unwrap();
@@ -37,14 +46,29 @@ fn line(out: &mut String, name: &str, list: &[u32]) {
     out.push('\n');
 }
 
+fn last_line(out: &mut String, kept: bool) {
+    out.push_str(if kept { "kept\n" } else { "changed\n" });
+}
+
 impl Case {
     pub fn check(sheet: Vec<u8>) -> Case {
-        Case { question: CHECK, sheet, a: 0, b: 0, c: 0 }
+        Case { question: CHECK, sheet, a: 0, b: 0, c: 0, given: Vec::new() }
     }
 
     pub fn table(sheet: Vec<u8>, a: usize, b: usize) -> Case {
         assert!(a <= MOST_ENTRIES && b <= MOST_ENTRIES);
-        Case { question: TABLE, sheet, a, b, c: 0 }
+        Case { question: TABLE, sheet, a, b, c: 0, given: Vec::new() }
+    }
+
+    pub fn moving(sheet: Vec<u8>, lags: &[i16], b: usize) -> Case {
+        assert!(lags.len() <= MOST_GIVEN && b <= MOST_ENTRIES);
+        let given = lags.iter().map(|&lag| lag as u16).collect();
+        Case { question: MOVE, sheet, a: lags.len(), b, c: 0, given }
+    }
+
+    pub fn a_loop(sheet: Vec<u8>, c: u32, words: &[u16]) -> Case {
+        assert!(words.len() <= MOST_GIVEN);
+        Case { question: LOOP, sheet, a: words.len(), b: 0, c, given: words.to_vec() }
     }
 
     pub fn write(&self, out: &mut Vec<u8>) {
@@ -55,6 +79,9 @@ impl Case {
         out.extend((self.b as u16).to_le_bytes());
         out.extend(self.c.to_le_bytes());
         out.extend(&self.sheet);
+        for word in &self.given {
+            out.extend(word.to_le_bytes());
+        }
     }
 
     /// Asks the question and appends the expected lines.
@@ -77,8 +104,25 @@ impl Case {
                     line(out, "registers", &registers[..written]);
                     line(out, "delays", &delays[..written]);
                 }
-                let kept = unchanged_from(&registers, written) && unchanged_from(&delays, written);
-                out.push_str(if kept { "kept\n" } else { "changed\n" });
+                last_line(out, unchanged_from(&registers, written) && unchanged_from(&delays, written));
+                answer
+            }
+            MOVE => {
+                let lags: Vec<i16> = self.given.iter().map(|&bits| bits as i16).collect();
+                let mut moved: Vec<u8> = (0..self.b).map(byte_before).collect();
+                let answer = questions::move_sheet(&self.sheet, &lags, &mut moved);
+                head(out, MOVE, answer);
+                let mut written = 0;
+                if answer.number == 0 {
+                    written = self.sheet.len();
+                    line(out, "moved", &moved[..written]);
+                }
+                last_line(out, (written..self.b).all(|i| moved[i] == byte_before(i)));
+                answer
+            }
+            LOOP => {
+                let answer = questions::check_loop(&self.sheet, self.c, &self.given);
+                head(out, LOOP, answer);
                 answer
             }
             other => panic!("no such question: {other}"),
@@ -109,5 +153,36 @@ mod tests {
         Case::check(vec![0; 15]).expect(&mut text);
         Case::table(known::ring().bytes(), 16, 15).expect(&mut text);
         assert_eq!(text, "1 1 0 0\n3 4 1 0\nkept\n");
+    }
+
+    #[test]
+    fn a_move_as_a_record() {
+        let mut bytes = Vec::new();
+        let mut text = String::new();
+        let case = Case::moving(known::host_alone().bytes(), &[0, -2], 25);
+        case.write(&mut bytes);
+        assert_eq!(bytes.len(), 12 + 24 + 4);
+        assert_eq!(bytes[..12], [4, 0, 24, 0, 2, 0, 25, 0, 0, 0, 0, 0]);
+        assert_eq!(bytes[36..], [0, 0, 254, 255]);
+        case.expect(&mut text);
+        assert_eq!(text, "4 0 0 0\nmoved 1 0 0 0 16 0 0 0 24 0 0 0 24 0 0 0 0 0 0 0 0 0 0 0\nkept\n");
+        text.clear();
+        Case::moving(known::host_alone().bytes(), &[1], 25).expect(&mut text);
+        Case::moving(known::host_alone().bytes(), &[0], 23).expect(&mut text);
+        assert_eq!(text, "4 8 0 0\nkept\n4 4 1 0\nkept\n");
+    }
+
+    #[test]
+    fn a_loop_check_as_a_record() {
+        let mut bytes = Vec::new();
+        let mut text = String::new();
+        let case = Case::a_loop(known::ring().bytes(), 4, &[2, 3, 0]);
+        case.write(&mut bytes);
+        assert_eq!(bytes.len(), 12 + 80 + 6);
+        assert_eq!(bytes[..12], [7, 0, 80, 0, 3, 0, 0, 0, 4, 0, 0, 0]);
+        assert_eq!(bytes[92..], [2, 0, 3, 0, 0, 0]);
+        case.expect(&mut text);
+        Case::a_loop(known::ring().bytes(), 5, &[2, 3, 0]).expect(&mut text);
+        assert_eq!(text, "7 0 0 0\n7 12 0 0\n");
     }
 }

@@ -179,6 +179,26 @@ pub fn planted(rng: &mut Random, n: usize, m: usize, through: &[usize]) -> Sheet
     sheet
 }
 
+/// Words of so many links that name blocks and wires of this sheet; they seldom form a chain.
+pub fn words(rng: &mut Random, sheet: &Sheet, links: usize) -> Vec<u16> {
+    let (n, m) = (sheet.blocks.len(), sheet.wires.len().max(1));
+    let mut words = Vec::new();
+    for _ in 0..links {
+        let kind = rng.between(1, 5) as u16;
+        words.push(kind);
+        match kind {
+            1 | 5 => words.push(rng.below(m) as u16),
+            3 | 4 => words.push(rng.below(n) as u16),
+            _ => {
+                let count = rng.below(3);
+                words.extend([rng.below(n) as u16, count as u16]);
+                words.extend((0..count).map(|_| rng.below(m) as u16));
+            }
+        }
+    }
+    words
+}
+
 #[cfg(test)]
 mod tests {
     use super::*;

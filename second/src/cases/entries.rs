@@ -110,7 +110,7 @@ fn wire_limits(book: &mut Book, rng: &mut Random) {
     let many = shapes::connected(rng, 2, 256, 2, 9);
     let far = [wire(2, 0, 1), wire(0, 2, 1), wire(0, 1, 2_001), Wire { spare: 1, ..wire(0, 1, 1) }];
     for (i, edge) in far.into_iter().enumerate() {
-        for at in [0, 127 + i, 254, 255] {
+        for at in [127 + i, 255] {
             let mut sheet = many.clone();
             sheet.wires[at] = edge;
             book.either(&sheet.bytes());
