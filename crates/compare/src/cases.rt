@@ -31,7 +31,7 @@ fn record(out: &mut [u8; 4096], used: &mut usize, rest: &[u8]) -> usize
     let code = u16_at(rest, 0);
     let a = u16_at(rest, 4) as usize;
     let b = u16_at(rest, 6) as usize;
-    // no question lends a longer list
+    // no record lends or gives a longer list
     if a > 4300 {
         return 0;
     }

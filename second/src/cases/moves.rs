@@ -360,12 +360,13 @@ fn full_size(book: &mut Book, rng: &mut Random) {
     book.moving_into(&sheet.bytes(), &lags, MOST_ENTRIES);
     book.moving_into(&sheet.bytes(), &lags, size - 1);
     // The last block and the last wire.
-    let mut wrong = lags.clone();
-    wrong[63] += 501;
-    book.moving(&sheet, &wrong);
-    let mut wrong = sheet.clone();
-    wrong.wires[255] = wire(1, 2, 2_000);
-    book.moving(&wrong, &lags.iter().enumerate().map(|(i, &lag)| if i == 1 { lags[2] - 1 } else { lag }).collect::<Vec<_>>());
+    let mut high = lags.clone();
+    high[63] += 501;
+    book.moving(&sheet, &high);
+    let mut apart = lags.clone();
+    apart[1] = lags[2] - 1;
+    sheet.wires[255] = wire(1, 2, 2_000);
+    book.moving(&sheet, &apart);
     // Blocks without wires, and one block with the most wires.
     let mut lone = shapes::chain(rng, 64, 9, 9, false);
     lone.wires.clear();
@@ -374,7 +375,8 @@ fn full_size(book: &mut Book, rng: &mut Random) {
     book.moving(&lone, &upper);
     book.moving(&lone, &lower);
     book.moving_into(&lone.bytes(), &upper[..63], lone.bytes().len());
-    let many = Sheet { blocks: vec![block(0, 0, 0), block(1, -3, 3)], wires: (0..256).map(|j| wire(j % 2, 1 - j % 2, 3 + j as u16)).collect() };
+    let wires = (0..256).map(|j| wire(j % 2, 1 - j % 2, 3 + j as u16)).collect();
+    let many = Sheet { blocks: vec![block(0, 0, 0), block(1, -3, 3)], wires };
     book.moving(&many, &[0, 3]);
     book.moving(&many, &[0, -3]);
     let mut last = many.clone();

@@ -1,9 +1,7 @@
 -- The part that is lent is as long as the record says.
 use native.Mathlib.Omega.{arith}
-use native.Mathlib.Omega.{arith}
 use lib.Seq.{length-take-le}
 use mathlib.Core.Path.{sym}
-use borrow.Author.Needs.{needs}
 use borrow.Author.Needs.{needs}
 use Rattle.compare.proofs.ask.check_loop.Statement.{statement}
 use Rattle.compare.proofs.ask.check_loop.Tie as tie

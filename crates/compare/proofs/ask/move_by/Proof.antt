@@ -1,9 +1,7 @@
 -- Both parts are within their lists, so each is as long as the record says.
 use native.Mathlib.Omega.{arith}
-use native.Mathlib.Omega.{arith}
 use lib.Seq.{length-take-le}
 use mathlib.Core.Path.{sym}
-use borrow.Author.Needs.{needs}
 use borrow.Author.Needs.{needs}
 use Rattle.compare.proofs.ask.move_by.Statement.{statement}
 use Rattle.compare.proofs.ask.move_by.Tie as tie

@@ -1,15 +1,13 @@
 -- Every lag below i is read.
-use borrow.Author.Needs.{needs}
 use native.Mathlib.Omega.{arith}
 use borrow.Author.Needs.{needs, sfits-of}
 use mir.Syntax.{w16}
 use mir.Val.{toZ, ofZ}
 use mir.Facts.{toZ-ofZ}
-use native.Mathlib.Omega.{arith}
 use mathlib.Core.Path.{_≡_, _∙_, ap}
 use Prim.Native.Nat.{ℕ, _*_, _-_, _<_, _≤_}
 use lib.ListN.{length, getD}
-use lib.IntN.{ℤ, pos}
+use lib.IntN.{pos}
 use Rattle.sheet.specs.Bytes.{i16At}
 use Rattle.sheet.specs.Lag.{lagOf}
 use Rattle.sheet.specs.Laws.Lag.{lag-excess}

@@ -1,7 +1,5 @@
 -- Byte after byte, up to the count.
 use borrow.Author.Needs.{needs}
-use native.Mathlib.Omega.{arith}
-use borrow.Author.Needs.{needs}
 use Prim.Native.Nat.{_-_}
 use Rattle.compare.proofs.out.bytes.Statement.{statement}
 use Rattle.compare.proofs.out.bytes.Tie as tie
