@@ -1,0 +1,4 @@
+pub mod Rules
+pub mod Questions
+pub mod Longest
+pub mod Laws
