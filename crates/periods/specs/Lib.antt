@@ -1,4 +1,5 @@
 pub mod Rules
+pub mod Lags
 pub mod Questions
 pub mod Longest
 pub mod Laws
