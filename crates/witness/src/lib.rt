@@ -1,0 +1,1 @@
+// The loop that proves a refusal, written from where the solver stopped.
