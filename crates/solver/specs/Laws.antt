@@ -1,3 +1,5 @@
 -- Laws about the definitions of specs/, for proofs and for the crates above.
 pub mod Sum
 pub mod Walk
+pub mod State
+pub mod Step

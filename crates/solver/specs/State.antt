@@ -9,6 +9,8 @@ use Rattle.solver.specs.Walk.{Rooted, Hit}
 use Rattle.solver.specs.Laws.Sum.{sum}
 use Rattle.solver.specs.declared.Turn.{Turn}
 use Rattle.solver.specs.declared.Turn.the-variants as T
+use Rattle.solver.specs.declared.Rest.{Rest}
+use Rattle.solver.specs.declared.Rest.the-variants as R
 
 -- e holds each block's lag, par the block that its link leads to, up its link's number.
 -- Every solution lies at or below e, a block is at or above what its link asks, and following links ends at the host.
@@ -30,11 +32,11 @@ pub record Stuck (g : Given) (e par : List ℕ) (i a b : ℕ) : Type 0 where
   pub broken : getD e b 0 + k < getD e a 0 + 32768
   pub why : Hit par a b ⊎ (getD e b 0 + k < getD (g .lower) a 0 + 32768)
 
--- one rule was tried: 0 where it holds, 1 where it was broken and is kept now, 2 where there is no solution
-pub record Relaxed (g : Given) (e e′ par′ up′ : List ℕ) (i a b k r : ℕ) : Type 0 where
+-- one rule was tried: 0 where what it says holds, 1 where it was broken and is kept now, 2 where there is no solution
+pub record Relaxed (g : Given) (Says : List ℕ → Type 0) (e e′ par′ up′ : List ℕ) (i a b r : ℕ) : Type 0 where
   pub small : r ≤ 2
   pub state : State g e′ par′ up′
-  pub same : r ≡ 0 → (e′ ≡ e) × Holds e′ a b k
+  pub same : r ≡ 0 → (e′ ≡ e) × Says e′
   pub less : r ≡ 1 → sum e′ < sum e
   pub none : r ≡ 2 → Stuck g e′ par′ i a b
 
@@ -48,3 +50,51 @@ pub record Swept (g : Given) (Done : List ℕ → Type 0) (e e′ par′ up′ :
 abbrev pub Turned : (g : Given) → (List ℕ → Type 0) → List ℕ → List ℕ → List ℕ → List ℕ → Turn → Type 0
 Turned g Done e e′ par′ up′ (T.Kept changed) = Swept g Done e e′ par′ up′ changed
 Turned g Done e e′ par′ up′ (T.Broken i a b) = State g e′ par′ up′ × Stuck g e′ par′ i a b
+
+-- rule i, as its numbers, may be tried on the state
+pub record Ready (g : Given) (lower e par up : List ℕ) (n i a b k : ℕ) : Type 0 where
+  pub state : State g e par up
+  pub rule : Rule g i a b k
+  pub n-is : n ≡ g .n
+  pub lower-is : lower ≡ g .lower
+
+-- ---- what the sweeps go over: rules `base + j` from a list of wires' ends, and the rules of one row of the path table
+pub record Wires (g : Given) (lower from to bounds : List ℕ) (n m base : ℕ) : Type 0 where
+  pub n-is : n ≡ g .n
+  pub few : m ≤ 256
+  pub lower-is : lower ≡ g .lower
+  pub from-long : length from ≡ 256
+  pub to-long : length to ≡ 256
+  pub bounds-long : length bounds ≡ 256
+  pub base-small : base ≤ 258
+  pub rules : (j : ℕ) → j < m → Rule g (base + j) (getD from j 0) (getD to j 0) (getD bounds j 0)
+
+-- the first k of these wires' rules hold
+abbrev pub WiresHold : List ℕ → List ℕ → List ℕ → ℕ → List ℕ → Type 0
+WiresHold from to bounds k e = (j : ℕ) → j < k → Holds e (getD from j 0) (getD to j 0) (getD bounds j 0)
+
+pub record Paths (g : Given) (lower registers delays : List ℕ) (n period : ℕ) : Type 0 where
+  pub n-is : n ≡ g .n
+  pub period-is : period ≡ g .period
+  pub lower-is : lower ≡ g .lower
+  pub registers-is : registers ≡ g .registers
+  pub delays-is : delays ≡ g .delays
+
+-- the rule of the pair u, v holds, where its delay exceeds the period
+abbrev pub PathHolds : List ℕ → List ℕ → ℕ → ℕ → ℕ → ℕ → List ℕ → Type 0
+PathHolds registers delays n period u v e = period < getD delays (u * n + v) 0 → Holds e u v (getD registers (u * n + v) 0 + 32767)
+
+abbrev pub RowHolds : List ℕ → List ℕ → ℕ → ℕ → ℕ → ℕ → List ℕ → Type 0
+RowHolds registers delays n period u k e = (v : ℕ) → v < k → PathHolds registers delays n period u v e
+
+abbrev pub PathsHold : List ℕ → List ℕ → ℕ → ℕ → ℕ → List ℕ → Type 0
+PathsHold registers delays n period k e = (u : ℕ) → u < k → RowHolds registers delays n period u n e
+
+-- all rules hold
+abbrev pub AllHold : Given → List ℕ → Type 0
+AllHold g e = (i a b k : ℕ) → Rule g i a b k → Holds e a b k
+
+-- the rounds have ended: the lags are a solution and the largest, or a rule leaves none
+abbrev pub Settled : Given → List ℕ → List ℕ → List ℕ → Rest → Type 0
+Settled g e par up R.Rest = State g e par up × AllHold g e
+Settled g e par up (R.Stuck i a b) = State g e par up × Stuck g e par i a b
