@@ -3,3 +3,4 @@ pub mod Sum
 pub mod Walk
 pub mod State
 pub mod Step
+pub mod Sweep
