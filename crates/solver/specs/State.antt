@@ -40,16 +40,17 @@ pub record Relaxed (g : Given) (Says : List ℕ → Type 0) (e e′ par′ up′
   pub less : r ≡ 1 → sum e′ < sum e
   pub none : r ≡ 2 → Stuck g e′ par′ i a b
 
--- rules were tried and kept, and `changed` of them lowered something; where none did, what they say is `Done`
-pub record Swept (g : Given) (Done : List ℕ → Type 0) (e e′ par′ up′ : List ℕ) (changed : ℕ) : Type 0 where
+-- at most `tried` rules were tried and are kept, and `changed` of them lowered something; where none did, what they say is `Done`
+pub record Swept (g : Given) (Done : List ℕ → Type 0) (tried : ℕ) (e e′ par′ up′ : List ℕ) (changed : ℕ) : Type 0 where
+  pub few : changed ≤ tried
   pub state : State g e′ par′ up′
   pub less : sum e′ + changed ≤ sum e
   pub same : changed ≡ 0 → (e′ ≡ e) × Done e′
 
 -- a sweep keeps its rules, or a rule leaves no solution
-abbrev pub Turned : (g : Given) → (List ℕ → Type 0) → List ℕ → List ℕ → List ℕ → List ℕ → Turn → Type 0
-Turned g Done e e′ par′ up′ (T.Kept changed) = Swept g Done e e′ par′ up′ changed
-Turned g Done e e′ par′ up′ (T.Broken i a b) = State g e′ par′ up′ × Stuck g e′ par′ i a b
+abbrev pub Turned : (g : Given) → (List ℕ → Type 0) → ℕ → List ℕ → List ℕ → List ℕ → List ℕ → Turn → Type 0
+Turned g Done tried e e′ par′ up′ (T.Kept changed) = Swept g Done tried e e′ par′ up′ changed
+Turned g Done tried e e′ par′ up′ (T.Broken i a b) = State g e′ par′ up′ × Stuck g e′ par′ i a b
 
 -- rule i, as its numbers, may be tried on the state
 pub record Ready (g : Given) (lower e par up : List ℕ) (n i a b k : ℕ) : Type 0 where

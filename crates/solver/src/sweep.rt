@@ -1,6 +1,6 @@
 // Sweeps: the rules of a kind, one after another.
 ghost use mathlib.Core.Path.{_≡_};
-ghost use Prim.Native.Nat.{_<_};
+ghost use Prim.Native.Nat.{_*_, _<_};
 ghost use Rattle.solver.specs.System.{Given};
 ghost use Rattle.solver.specs.State.{State, Turned, Wires, WiresHold, Paths, RowHolds, PathsHold};
 use crate::Turn;
@@ -21,7 +21,7 @@ pub fn sweep_wires(
     up: &mut [usize; 64],
 ) -> Turn
     requires { ⌜ ((g : Given) × State g (now e) (now par) (now up) × Wires g (now lower) (now from) (now to) (now bounds) n m base) ⌝ }
-    ensures { λ r. ⌜ ((g : Given) → State g (now (e .entry)) (now (par .entry)) (now (up .entry)) → Wires g (now (lower .entry)) (now (from .entry)) (now (to .entry)) (now (bounds .entry)) n m base → Turned g (WiresHold (now (from .entry)) (now (to .entry)) (now (bounds .entry)) m) (now (e .entry)) (now (e .exit)) (now (par .exit)) (now (up .exit)) r) ⌝ }
+    ensures { λ r. ⌜ ((g : Given) → State g (now (e .entry)) (now (par .entry)) (now (up .entry)) → Wires g (now (lower .entry)) (now (from .entry)) (now (to .entry)) (now (bounds .entry)) n m base → Turned g (WiresHold (now (from .entry)) (now (to .entry)) (now (bounds .entry)) m) m (now (e .entry)) (now (e .exit)) (now (par .exit)) (now (up .exit)) r) ⌝ }
 {
     let mut changed: usize = 0;
     let mut j: usize = 0;
@@ -51,7 +51,7 @@ fn sweep_row(
     up: &mut [usize; 64],
 ) -> Turn
     requires { ⌜ ((g : Given) × State g (now e) (now par) (now up) × Paths g (now lower) (now registers) (now delays) n period × (u < n)) ⌝ }
-    ensures { λ r. ⌜ ((g : Given) → State g (now (e .entry)) (now (par .entry)) (now (up .entry)) → Paths g (now (lower .entry)) (now (registers .entry)) (now (delays .entry)) n period → u < n → Turned g (RowHolds (now (registers .entry)) (now (delays .entry)) n period u n) (now (e .entry)) (now (e .exit)) (now (par .exit)) (now (up .exit)) r) ⌝ }
+    ensures { λ r. ⌜ ((g : Given) → State g (now (e .entry)) (now (par .entry)) (now (up .entry)) → Paths g (now (lower .entry)) (now (registers .entry)) (now (delays .entry)) n period → u < n → Turned g (RowHolds (now (registers .entry)) (now (delays .entry)) n period u n) n (now (e .entry)) (now (e .exit)) (now (par .exit)) (now (up .exit)) r) ⌝ }
 {
     let mut changed: usize = 0;
     let mut v: usize = 0;
@@ -78,7 +78,7 @@ pub fn sweep_paths(
     up: &mut [usize; 64],
 ) -> Turn
     requires { ⌜ ((g : Given) × State g (now e) (now par) (now up) × Paths g (now lower) (now registers) (now delays) n period) ⌝ }
-    ensures { λ r. ⌜ ((g : Given) → State g (now (e .entry)) (now (par .entry)) (now (up .entry)) → Paths g (now (lower .entry)) (now (registers .entry)) (now (delays .entry)) n period → Turned g (PathsHold (now (registers .entry)) (now (delays .entry)) n period n) (now (e .entry)) (now (e .exit)) (now (par .exit)) (now (up .exit)) r) ⌝ }
+    ensures { λ r. ⌜ ((g : Given) → State g (now (e .entry)) (now (par .entry)) (now (up .entry)) → Paths g (now (lower .entry)) (now (registers .entry)) (now (delays .entry)) n period → Turned g (PathsHold (now (registers .entry)) (now (delays .entry)) n period n) (64 * n) (now (e .entry)) (now (e .exit)) (now (par .exit)) (now (up .exit)) r) ⌝ }
 {
     let mut changed: usize = 0;
     let mut u: usize = 0;

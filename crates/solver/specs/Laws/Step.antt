@@ -100,38 +100,40 @@ module _ {g : Given} {lower e par up : List ℕ} {n i a b k : ℕ} (R : Ready g 
       }
 
 -- ---- sweeps: `Done` is what the rules tried so far say
-pub sweep-start : {g : Given} {Done : List ℕ → Type 0} {e par up : List ℕ} → State g e par up → Done e → Swept g Done e e par up 0
-sweep-start St d = record { state = St; less = omega arith; same = λ _. (refl, d) }
+pub sweep-start : {g : Given} {Done : List ℕ → Type 0} {e par up : List ℕ} → State g e par up → Done e → Swept g Done 0 e e par up 0
+sweep-start St d = record { few = omega arith; state = St; less = omega arith; same = λ _. (refl, d) }
 
 -- one rule more
-pub sweep-step : {g : Given} {Done Says More : List ℕ → Type 0} {e₀ e par up e′ par′ up′ : List ℕ} {changed i a b r : ℕ}
-    → Swept g Done e₀ e par up changed → Relaxed g Says e e′ par′ up′ i a b r → (r ≡ 2 → ⊥)
-    → ((l : List ℕ) → Done l → Says l → More l) → Swept g More e₀ e′ par′ up′ (changed + r)
-sweep-step {g} {Done} {Says} {More} {e₀} {e} {par} {up} {e′} {par′} {up′} {changed} {i} {a} {b} {r} T R n2 f = go (ℕ-discrete r 0)
+pub sweep-step : {g : Given} {Done Says More : List ℕ → Type 0} {e₀ e par up e′ par′ up′ : List ℕ} {tried changed i a b r : ℕ}
+    → Swept g Done tried e₀ e par up changed → Relaxed g Says e e′ par′ up′ i a b r → (r ≡ 2 → ⊥)
+    → ((l : List ℕ) → Done l → Says l → More l) → Swept g More (tried + 1) e₀ e′ par′ up′ (changed + r)
+sweep-step {g} {Done} {Says} {More} {e₀} {e} {par} {up} {e′} {par′} {up′} {tried} {changed} {i} {a} {b} {r} T R n2 f = go (ℕ-discrete r 0)
   where
-    go : Dec (r ≡ 0) → Swept g More e₀ e′ par′ up′ (changed + r)
+    go : Dec (r ≡ 0) → Swept g More (tried + 1) e₀ e′ par′ up′ (changed + r)
     go (yes z) =
         let p = R .same z in
         record {
+          few = omega (arith, T .few);
           state = R .state;
           less = omega (arith, T .less, ap sum (p .0));
           same = λ q. let t = T .same (omega (arith, q)) in (p .0 ∙ t .0, f e′ (rw (p .0) (t .1)) (p .1));
         }
     go (no nz) =
         let one : r ≡ 1 = omega (arith, R .small) in
-        record { state = R .state; less = omega (arith, T .less, R .less one); same = λ q. absurd (omega (arith, q)) }
+        record { few = omega (arith, T .few); state = R .state; less = omega (arith, T .less, R .less one); same = λ q. absurd (omega (arith, q)) }
 
 -- a sweep after a sweep
-pub sweep-both : {g : Given} {Done More All : List ℕ → Type 0} {e₀ e par up e′ par′ up′ : List ℕ} {changed r : ℕ}
-    → Swept g Done e₀ e par up changed → Swept g More e e′ par′ up′ r
-    → ((l : List ℕ) → Done l → More l → All l) → Swept g All e₀ e′ par′ up′ (changed + r)
+pub sweep-both : {g : Given} {Done More All : List ℕ → Type 0} {e₀ e par up e′ par′ up′ : List ℕ} {tried tried′ changed r : ℕ}
+    → Swept g Done tried e₀ e par up changed → Swept g More tried′ e e′ par′ up′ r
+    → ((l : List ℕ) → Done l → More l → All l) → Swept g All (tried + tried′) e₀ e′ par′ up′ (changed + r)
 sweep-both {e′ = e′} T R f = record {
+  few = omega (arith, T .few, R .few);
   state = R .state;
   less = omega (arith, T .less, R .less);
   same = λ q. let t = T .same (omega (arith, q)) in let u = R .same (omega (arith, q)) in (u .0 ∙ t .0, f e′ (rw (u .0) (t .1)) (u .1));
 }
 
 -- the same sweep, said otherwise
-pub sweep-says : {g : Given} {Done More : List ℕ → Type 0} {e₀ e par up : List ℕ} {changed : ℕ}
-    → Swept g Done e₀ e par up changed → ((l : List ℕ) → Done l → More l) → Swept g More e₀ e par up changed
-sweep-says {e = e} T f = record { state = T .state; less = T .less; same = λ q. let t = T .same q in (t .0, f e (t .1)) }
+pub sweep-says : {g : Given} {Done More : List ℕ → Type 0} {tried more : ℕ} {e₀ e par up : List ℕ} {changed : ℕ}
+    → Swept g Done tried e₀ e par up changed → tried ≤ more → ((l : List ℕ) → Done l → More l) → Swept g More more e₀ e par up changed
+sweep-says {e = e} T h f = record { few = omega (arith, T .few); state = T .state; less = T .less; same = λ q. let t = T .same q in (t .0, f e (t .1)) }

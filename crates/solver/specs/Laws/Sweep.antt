@@ -9,7 +9,10 @@ use borrow.Author.Count.{below-more}
 use lib.ListN.{length, getD, set}
 use Rattle.paths.specs.Laws.Parts.{row-before, square-small}
 use Rattle.solver.specs.System.{Given, Rule, Rule.path, Rule.wire, Rule.ceiling, Fit, Solution, Holds}
-use Rattle.solver.specs.State.{State, Stuck, Relaxed, Swept, Ready, Wires, WiresHold, Paths, PathHolds, RowHolds, PathsHold, AllHold}
+use Rattle.solver.specs.declared.Turn.{Turn}
+use Rattle.solver.specs.declared.Turn.the-variants as T
+use Rattle.solver.specs.Laws.Step.{sweep-step, sweep-both, sweep-says}
+use Rattle.solver.specs.State.{State, Stuck, Relaxed, Swept, Turned, Ready, Wires, WiresHold, Paths, PathHolds, RowHolds, PathsHold, AllHold}
 
 -- ---- wires
 module _ {g : Given} {lower from to bounds : List ℕ} {n m base : ℕ} (X : Wires g lower from to bounds n m base) where
@@ -63,3 +66,25 @@ path-says X u v k q R = record {
   less = R .less;
   none = R .none;
 }
+
+-- ---- sweeps, turn by turn: one wire more, one pair more, one row more
+pub wires-turn : {g : Given} {lower from to bounds : List ℕ} {n m base : ℕ} → Wires g lower from to bounds n m base
+    → {e₀ e par up e′ par′ up′ : List ℕ} {changed i r : ℕ} (j : ℕ) → Swept g (WiresHold from to bounds j) j e₀ e par up changed
+    → Relaxed g (λ l. Holds l (getD from j 0) (getD to j 0) (getD bounds j 0)) e e′ par′ up′ i (getD from j 0) (getD to j 0) r → (r ≡ 2 → ⊥)
+    → Swept g (WiresHold from to bounds (j + 1)) (j + 1) e₀ e′ par′ up′ (changed + r)
+wires-turn {from = from} {to = to} {bounds = bounds} X j T R n2 =
+    sweep-step T R n2 (λ l f h. below-more (λ (i : ℕ). Holds l (getD from i 0) (getD to i 0) (getD bounds i 0)) j f h)
+
+module _ {g : Given} {lower registers delays : List ℕ} {n period : ℕ} (X : Paths g lower registers delays n period) {e₀ e par up e′ par′ up′ : List ℕ} {changed r : ℕ} (u : ℕ) where
+  pub row-turn : (v : ℕ) → Swept g (RowHolds registers delays n period u v) v e₀ e par up changed → Relaxed g (PathHolds registers delays n period u v) e e′ par′ up′ 1 u v r → (r ≡ 2 → ⊥)
+      → Swept g (RowHolds registers delays n period u (v + 1)) (v + 1) e₀ e′ par′ up′ (changed + r)
+  row-turn v T R n2 = sweep-step T R n2 (λ l f h. below-more (λ (i : ℕ). PathHolds registers delays n period u i l) v f h)
+
+  pub paths-turn : n ≤ 64 → Swept g (PathsHold registers delays n period u) (64 * u) e₀ e par up changed → Swept g (RowHolds registers delays n period u n) n e e′ par′ up′ r
+      → Swept g (PathsHold registers delays n period (u + 1)) (64 * (u + 1)) e₀ e′ par′ up′ (changed + r)
+  paths-turn few T R = sweep-says (sweep-both T R (λ l f h. below-more (λ (i : ℕ). RowHolds registers delays n period i n l) u f h)) (omega arith) (λ l f. f)
+
+-- what a sweep's result says once its case is known
+module _ {g : Given} {Done : List ℕ → Type 0} {tried : ℕ} {e e′ par′ up′ : List ℕ} where
+  pub turn-kept : (t : Turn) (changed : ℕ) → Turned g Done tried e e′ par′ up′ t → t ≡ T.Kept changed → Swept g Done tried e e′ par′ up′ changed
+  turn-kept t changed h q = subst (Turned g Done tried e e′ par′ up′) q h
