@@ -9,8 +9,8 @@ use Rattle.solver.specs.Walk.{Rooted, Hit}
 use Rattle.solver.specs.Laws.Sum.{sum}
 use Rattle.solver.specs.declared.Turn.{Turn}
 use Rattle.solver.specs.declared.Turn.the-variants as T
-use Rattle.solver.specs.declared.Rest.{Rest}
-use Rattle.solver.specs.declared.Rest.the-variants as R
+use Rattle.solver.specs.declared.End.{End}
+use Rattle.solver.specs.declared.End.the-variants as E
 
 -- e holds each block's lag, par the block that its link leads to, up its link's number.
 -- Every solution lies at or below e, a block is at or above what its link asks, and following links ends at the host.
@@ -95,7 +95,20 @@ PathsHold registers delays n period k e = (u : ℕ) → u < k → RowHolds regis
 abbrev pub AllHold : Given → List ℕ → Type 0
 AllHold g e = (i a b k : ℕ) → Rule g i a b k → Holds e a b k
 
+-- code's lists are those that the solver is given
+pub record Lists (g : Given) (lower from to wires ceilings registers delays : List ℕ) (n m period : ℕ) : Type 0 where
+  pub n-is : n ≡ g .n
+  pub m-is : m ≡ g .m
+  pub period-is : period ≡ g .period
+  pub lower-is : lower ≡ g .lower
+  pub from-is : from ≡ g .from
+  pub to-is : to ≡ g .to
+  pub wires-is : wires ≡ g .wires
+  pub ceilings-is : ceilings ≡ g .ceilings
+  pub registers-is : registers ≡ g .registers
+  pub delays-is : delays ≡ g .delays
+
 -- the rounds have ended: the lags are a solution and the largest, or a rule leaves none
-abbrev pub Settled : Given → List ℕ → List ℕ → List ℕ → Rest → Type 0
-Settled g e par up R.Rest = State g e par up × AllHold g e
-Settled g e par up (R.Stuck i a b) = State g e par up × Stuck g e par i a b
+abbrev pub Settled : Given → List ℕ → List ℕ → List ℕ → End → Type 0
+Settled g e par up E.Rest = State g e par up × AllHold g e
+Settled g e par up (E.Stuck i a b) = State g e par up × Stuck g e par i a b

@@ -12,7 +12,7 @@ use Rattle.solver.specs.System.{Given, Rule, Rule.path, Rule.wire, Rule.
 use Rattle.solver.specs.declared.Turn.{Turn}
 use Rattle.solver.specs.declared.Turn.the-variants as T
 use Rattle.solver.specs.Laws.Step.{sweep-step, sweep-both, sweep-says}
-use Rattle.solver.specs.State.{State, Stuck, Relaxed, Swept, Turned, Ready, Wires, WiresHold, Paths, PathHolds, RowHolds, PathsHold, AllHold}
+use Rattle.solver.specs.State.{State, Stuck, Relaxed, Swept, Turned, Ready, Wires, WiresHold, Paths, PathHolds, RowHolds, PathsHold, AllHold, Lists}
 
 -- ---- wires
 module _ {g : Given} {lower from to bounds : List ℕ} {n m base : ℕ} (X : Wires g lower from to bounds n m base) where
@@ -88,3 +88,54 @@ module _ {g : Given} {lower registers delays : List ℕ} {n period : ℕ} (X : P
 module _ {g : Given} {Done : List ℕ → Type 0} {tried : ℕ} {e e′ par′ up′ : List ℕ} where
   pub turn-kept : (t : Turn) (changed : ℕ) → Turned g Done tried e e′ par′ up′ t → t ≡ T.Kept changed → Swept g Done tried e e′ par′ up′ changed
   turn-kept t changed h q = subst (Turned g Done tried e e′ par′ up′) q h
+
+-- ---- a round: the lists hold the rules of wires, ceilings and paths, and these are all
+module _ {g : Given} {lower from to wires ceilings registers delays : List ℕ} {n m period : ℕ} (L : Lists g lower from to wires ceilings registers delays n m period) (F : Fit g) where
+  pub wire-rules : Wires g lower from to wires n m 2
+  wire-rules = record {
+    n-is = L .n-is;
+    few = rw (L .m-is) (F .few-wires);
+    lower-is = L .lower-is;
+    from-long = rw (L .from-is) (F .from-long);
+    to-long = rw (L .to-is) (F .to-long);
+    bounds-long = rw (L .wires-is) (F .wires-long);
+    base-small = omega arith;
+    rules = λ j h. rw (L .from-is, L .to-is, L .wires-is) (wire j (rw (← L .m-is) h) refl refl refl refl);
+  }
+
+  pub ceiling-rules : Wires g lower to from ceilings n m 258
+  ceiling-rules = record {
+    n-is = L .n-is;
+    few = rw (L .m-is) (F .few-wires);
+    lower-is = L .lower-is;
+    from-long = rw (L .to-is) (F .to-long);
+    to-long = rw (L .from-is) (F .from-long);
+    bounds-long = rw (L .ceilings-is) (F .ceilings-long);
+    base-small = omega arith;
+    rules = λ j h. rw (L .from-is, L .to-is, L .ceilings-is) (ceiling j (rw (← L .m-is) h) refl refl refl refl);
+  }
+
+  pub path-rules : Paths g lower registers delays n period
+  path-rules = record { n-is = L .n-is; period-is = L .period-is; lower-is = L .lower-is; registers-is = L .registers-is; delays-is = L .delays-is }
+
+  -- the sweeps of a round go over every rule
+  abbrev OneEach : List ℕ → Type 0
+  OneEach l = WiresHold from to wires m l × WiresHold to from ceilings m l × PathsHold registers delays n period n l
+
+  all-hold : (l : List ℕ) → OneEach l → AllHold g l
+  all-hold l h i a b k (path ei ha hb hd ek) =
+      rw ek
+      (rw (L .registers-is, L .n-is) at
+      (h .2 a (rw (L .n-is) ha) b (rw (L .n-is) hb) (rw (L .period-is, L .delays-is, L .n-is) hd)))
+  all-hold l h i a b k (wire j hj ei ea eb ek) = rw (ea, eb, ek) (rw (L .from-is, L .to-is, L .wires-is) at (h .0 j (rw (L .m-is) hj)))
+  all-hold l h i a b k (ceiling j hj ei ea eb ek) = rw (ea, eb, ek) (rw (L .from-is, L .to-is, L .ceilings-is) at (h .1 j (rw (L .m-is) hj)))
+
+  pub round-ends : {e₀ e par up e₁ par₁ up₁ e₂ par₂ up₂ : List ℕ} {x y z : ℕ} → Swept g (WiresHold from to wires m) m e₀ e par up x
+      → Swept g (WiresHold to from ceilings m) m e e₁ par₁ up₁ y → Swept g (PathsHold registers delays n period n) (64 * n) e₁ e₂ par₂ up₂ z
+      → Swept g (AllHold g) 4608 e₀ e₂ par₂ up₂ (0 + x + y + z)
+  round-ends {e₀} {e₂ = e₂} {par₂ = par₂} {up₂ = up₂} {x} {y} {z} A B C =
+      let Both : List ℕ → Type 0 = λ l. WiresHold from to wires m l × WiresHold to from ceilings m l in
+      let count : x + y + z ≡ 0 + x + y + z = omega arith in
+      subst (Swept g (AllHold g) 4608 e₀ e₂ par₂ up₂) count
+      (sweep-says (sweep-both {All = OneEach} (sweep-both {All = Both} A B (λ l f h. (f, h))) C (λ l f h. (f .0, f .1, h)))
+      (omega (arith, L .n-is, L .m-is, F .few-blocks, F .few-wires)) all-hold)
