@@ -2,3 +2,4 @@
 pub mod Rules
 pub mod Period
 pub mod Lags
+pub mod Asked
