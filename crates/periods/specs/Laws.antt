@@ -3,3 +3,4 @@ pub mod Rules
 pub mod Period
 pub mod Lags
 pub mod Asked
+pub mod Theorems
