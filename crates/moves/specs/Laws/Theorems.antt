@@ -117,6 +117,16 @@ first-eight s t l o b h out (inl f) =
     ap (λ (x : MoveOutcome). x .says .number) (g .2) ∙ ap (λ (x : Answer). x .number) (g .1 .3)
 first-eight s t l o b h out (inr f) = absurd (f .0 (b, h, out))
 
+-- permitted lags move a sound sheet, where the lists are long enough
+pub permitted-moves : (s : List ℕ) (lags : List ℤ) (l : List ℕ) (o : MoveOutcome) → SoundSheet s → Permitted (coreOf s) (lagsIn lags) → blocksIn s ≤ length lags → length s ≤ length l
+    → MoveRight s lags l o → MoveDone s (lagsIn lags) l o
+permitted-moves s lags l o h p g k f =
+    last-done s lags l o
+    (skip-stage (keep s lags l) (lagRules s (lagsIn lags)) (last s lags l) o (permitted-none s (lagsIn lags) p)
+    (skip-stage (keep s lags l) (soundRules s) (afterSound s lags l) o (sheet-sound s h)
+    (skip-stage (keep s lags l) (room s lags l) (stage (keep s lags l) (soundRules s) ++ afterSound s lags l) o (λ w. omega arith, (λ w. omega arith, tt))
+    (skip-stage (keep s lags l) (frameRules s) (moveAfterFrame s lags l) o (framed-none s (h .formed .framed)) f))))
+
 -- lags that agree on the blocks move a sheet alike
 pub moved-alike : (s : List ℕ) → FormedSheet s → (q r : ℕ → ℤ) (t : List ℕ) → ((b : ℕ) → b < blocksIn s → q b ≡ r b) → MovedSheet s q t → MovedSheet s r t
 moved-alike s f q r t e m = record {

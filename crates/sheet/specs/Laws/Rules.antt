@@ -53,6 +53,12 @@ module _ {A : Type 0} where
   none-right [] ts n = n
   none-right (r ∷ rs) ts n = none-right rs ts (n .1)
 
+  -- rules of which none applies are passed over
+  pub skip : (rs ts : List (Rule A)) (o : A) → None rs → First (rs ++ ts) o → First ts o
+  skip [] ts o n f = f
+  skip (r ∷ rs) ts o n (inl f) = absurd (n .0 (f .0))
+  skip (r ∷ rs) ts o n (inr f) = skip rs ts o (n .1) (f .1)
+
   -- ---- a stage of answers as a stage of a question
   module _ (keep : Answer → A) where
     pub stage-exact : (rs : List (Rule Answer)) → Exact rs → Exact (stage keep rs)
@@ -77,9 +83,7 @@ module _ {A : Type 0} where
 
 -- a stage of which no rule applies is passed over
 pub skip-stage : {A : Type 0} (keep : Answer → A) (rs : List (Rule Answer)) (ts : List (Rule A)) (o : A) → None rs → First (stage keep rs ++ ts) o → First ts o
-skip-stage keep [] ts o n f = f
-skip-stage keep (r ∷ rs) ts o n (inl f) = absurd (n .0 (f .0))
-skip-stage keep (r ∷ rs) ts o n (inr f) = skip-stage keep rs ts o (n .1) (f .1)
+skip-stage keep rs ts o n f = skip (stage keep rs) ts o (stage-none keep rs n) f
 
 -- a question ended at a stage, or none of its rules applied
 pub unstage : {A : Type 0} (keep : Answer → A) (says : A → Answer) → ((a : Answer) → says (keep a) ≡ a) → (rs : List (Rule Answer)) (ts : List (Rule A)) (o : A)
