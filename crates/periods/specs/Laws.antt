@@ -4,3 +4,4 @@ pub mod Period
 pub mod Lags
 pub mod Asked
 pub mod Theorems
+pub mod Delivered

@@ -24,6 +24,11 @@ use Rattle.periods.specs.Lags.{NonePermitted, LoopGiven, PlainLoop}
 use Rattle.periods.specs.Questions.{LagsOutcome, lagsOutcome, wordsNeeded, lagRoom, LagsDone, LagsRefused, lagsLast, LagsRight, BestDone, bestLast, BestRight, Alike}
 use Rattle.periods.specs.Laws.Lags.{largest-unique, least-unique}
 
+-- 01: "the two lag questions, n lags (i16), then n(n + 2) words (u16) for a loop": both lists are long enough
+pub record LongLists (s : List ℕ) (l : List ℤ) (w : List ℕ) : Type 0 where
+  pub lags-long : blocksIn s ≤ length l
+  pub words-long : wordsNeeded (blocksIn s) ≤ length w
+
 -- an outcome is like itself
 itself : (o : LagsOutcome) → Alike o o
 itself o = record { number-same = refl; place-same = refl; lags-same = refl; words-long = refl; words-past = λ i g h. refl; else-same = λ a b. refl }
@@ -85,13 +90,13 @@ module _ (s : List ℕ) (l : List ℤ) (w : List ℕ) (last : List (Rule LagsOut
   -- it was refused with 1 to 7, or the last rules were reached
   pub record Reached (o : LagsOutcome) : Type 0 where
     pub sound : SoundSheet s
-    pub roomy : None (lagRoom s l w)
+    pub long : LongLists s l w
     pub ends-with : First last o
 
-  pub asked-reached : SoundSheet s → blocksIn s ≤ length l → wordsNeeded (blocksIn s) ≤ length w → (o : LagsOutcome) → Asked o → First last o
-  asked-reached h g k o f =
+  pub asked-reached : SoundSheet s → LongLists s l w → (o : LagsOutcome) → Asked o → First last o
+  asked-reached h long o f =
       skip-stage keep (soundRules s) last o (sheet-sound s h)
-      (skip-stage keep (lagRoom s l w) afterRoom o (asked-roomy (blocksIn s) refl g k)
+      (skip-stage keep (lagRoom s l w) afterRoom o (asked-roomy (blocksIn s) refl (long .lags-long) (long .words-long))
       (skip-stage keep (frameRules s) afterFrame o (framed-none s (h .formed .framed)) f))
 
   abbrev Early : LagsOutcome → Type 0
@@ -114,12 +119,15 @@ module _ (s : List ℕ) (l : List ℤ) (w : List ℕ) (last : List (Rule LagsOut
   sound-early o (inr (x, inr (y, inl f))) = numbered (o .says) (answer 7 (f .1 .0) 0) (omega arith) (omega arith) (f .1 .3)
   sound-early o (inr (x, inr (y, inr f))) = absurd (f .1)
 
+  long-of : None (lagRoom s l w) → LongLists s l w
+  long-of n = record { lags-long = omega (arith, n .0); words-long = omega (arith, n .1 .0) }
+
   pub asked-means : (o : LagsOutcome) → Asked o → ((1 ≤ o .says .number) × (o .says .number ≤ 7)) ⊎ Reached o
   asked-means o h = frame (unstage keep says (λ a. refl) (frameRules s) afterFrame o h)
     where
       sound : None (frameRules s) → None (lagRoom s l w) → First (soundRules s) (o .says) ⊎ (None (soundRules s) × First last o) → Early o ⊎ Reached o
       sound f g (inl k) = inl (sound-early o k)
-      sound f g (inr k) = inr (record { sound = sound-sheet s f (k .0); roomy = g; ends-with = k .1 })
+      sound f g (inr k) = inr (record { sound = sound-sheet s f (k .0); long = long-of g; ends-with = k .1 })
 
       room : None (frameRules s) → First (lagRoom s l w) (o .says) ⊎ (None (lagRoom s l w) × First afterRoom o) → Early o ⊎ Reached o
       room f (inl k) = inl (room-early o k)

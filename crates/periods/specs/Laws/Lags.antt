@@ -1,7 +1,7 @@
 -- T1: largest lags and the least period are unique, and the least period is an entry of the path table; what a move does to them. All on cores.
 -- Assumes nothing.
 use mathlib.Core.Path.{_≡_, refl, sym, ap, _∙_, subst, fun-ext}
-use mathlib.Core.Logic.{_⊎_, inl, inr}
+use mathlib.Core.Logic.{_⊎_, inl, inr, _↔_}
 use mathlib.Core.List.{List, []}
 use Prim.Native.Nat.{ℕ, zero, suc, _+_, _-_, _≤_, _<_}
 use native.Mathlib.Omega.{arith}
@@ -12,12 +12,13 @@ use Rattle.sheet.specs.Core.{Core}
 use Rattle.sheet.specs.Sheet.{Formed}
 use Rattle.sheet.specs.Laws.Integer.{up, down, plus, minus, le-parts, parts-le, parts-eq}
 use Rattle.paths.specs.Path.{Joins, registersOn, delayOn}
-use Rattle.paths.specs.Table.{Best, Entry, best, none}
+use Rattle.paths.specs.Table.{Best, Entry, best, none, Period}
+use Rattle.paths.specs.Laws.Same.{same-sym, joins-same, delay-same}
 use Rattle.paths.specs.Laws.Path.{joins-start-lt, joins-end-lt}
 use Rattle.moves.specs.Lags.{movedBy, Permitted, MovedTo, Meets, Moved}
 use Rattle.moves.specs.Laws.Lags.{telescope}
 use Rattle.moves.specs.Laws.Lattice.{moved-to}
-use Rattle.moves.specs.Laws.Moved.{permitted-after, permitted-before, meets-after, meets-before}
+use Rattle.moves.specs.Laws.Moved.{same-wires, same-delays, permitted-after, permitted-before, meets-after, meets-before}
 use Rattle.periods.specs.Lags.{Largest, Least, NonePermitted, NoneMeets}
 
 module _ (c : Core) where
@@ -146,3 +147,32 @@ module _ (c c′ : Core) (r : ℕ → ℤ) (mv : Moved c r c′) (f : Formed c) 
     met = meets-less p (a .lags) (a .met);
     least = λ q t k. a .least q (λ b. r b +ℤ t b) (meets-after c c′ r mv f t q k);
   }
+
+  -- ---- 01: "They meet a period c if also the moved period is at most c."
+  module _ (h : Permitted c r) (q : ℕ) (d : Period (c′ .shape) (c′ .registers) q) where
+    -- the moved period is that of some path of c
+    period-met : (p : ℕ) → Meets c p r → q ≤ p
+    period-met p m =
+        let j = joins-same (same-sym (same-wires c c′ r mv)) (d .start) (d .way .wires) (d .end) (d .way .joins) in
+        omega (
+          arith,
+          m .quick (c′ .registers) (mv .registers-is) (d .start) (d .end) (d .way .wires) j (d .way .registers-is),
+          delay-same (same-wires c c′ r mv) (same-delays c c′ r mv) (d .start) (d .way .wires) (d .end) j,
+          d .way .delay-is,
+        )
+
+    met-period : Meets c q r
+    met-period = record {
+      permitted = h;
+      quick = λ x m u v ws j z.
+          let y = mv .registers-is in
+          let e : registersOn (c′ .registers) ws ≡ 0 = omega (arith, telescope c r x m u ws v j, telescope c r (c′ .registers) y u ws v j) in
+          omega (
+            arith,
+            d .largest u v ws (joins-same (same-wires c c′ r mv) u ws v j) e,
+            delay-same (same-wires c c′ r mv) (same-delays c c′ r mv) u ws v j,
+          );
+    }
+
+    pub moved-period : (p : ℕ) → Meets c p r ↔ (q ≤ p)
+    moved-period p = (period-met p, λ k. meets-longer c q p r met-period k)

@@ -18,12 +18,7 @@ use Rattle.loops.specs.Loop.{LoopRight}
 use Rattle.loops.specs.Laws.Question.{loop-agrees, loop-rest, loop-yes}
 use Rattle.periods.specs.Lags.{NonePermitted, NoneMeets, LoopGiven, PlainLoop}
 use Rattle.periods.specs.Questions.{LagsOutcome, wordsNeeded, LagsDone, LagsRefused, lagsLast, LagsRight, BestDone, bestLast, BestRight}
-use Rattle.periods.specs.Laws.Asked.{asked-means, asked-reached}
-
--- 01: "the two lag questions, n lags (i16), then n(n + 2) words (u16) for a loop": both lists are long enough
-pub record LongLists (s : List ℕ) (l : List ℤ) (w : List ℕ) : Type 0 where
-  pub lags-long : blocksIn s ≤ length l
-  pub words-long : wordsNeeded (blocksIn s) ≤ length w
+use Rattle.periods.specs.Laws.Asked.{LongLists, asked-means, asked-reached}
 
 -- ---- the three ends of lags at period c, and the two of best period
 pub data LagsEnd (s : List ℕ) (c : ℕ) (l : List ℤ) (w : List ℕ) (o : LagsOutcome) : Type 0 where
@@ -108,7 +103,7 @@ module _ (s : List ℕ) (l : List ℤ) (w : List ℕ) (o : LagsOutcome) where
 module _ (s : List ℕ) (l : List ℤ) (w : List ℕ) (h : SoundSheet s) (long : LongLists s l w) (o : LagsOutcome) where
   module _ (c : ℕ) (f : LagsRight s c l w o) where
     pub lags-end : LagsEnd s c l w o
-    lags-end = lags-last s c l w o (asked-reached s l w (lagsLast s c l w) h (long .lags-long) (long .words-long) o f)
+    lags-end = lags-last s c l w o (asked-reached s l w (lagsLast s c l w) h long o f)
 
     -- 10: "no permitted lags exist"
     pub lags-ten : (o .says .number ≡ 10) ↔ NonePermitted (coreOf s)
@@ -139,7 +134,7 @@ module _ (s : List ℕ) (l : List ℤ) (w : List ℕ) (h : SoundSheet s) (long :
 
   module _ (f : BestRight s l w o) where
     pub best-end : BestEnd s l w o
-    best-end = best-last s l w o (asked-reached s l w (bestLast s l w) h (long .lags-long) (long .words-long) o f)
+    best-end = best-last s l w o (asked-reached s l w (bestLast s l w) h long o f)
 
     pub best-ten : (o .says .number ≡ 10) ↔ NonePermitted (coreOf s)
     best-ten = (λ z. best-means-none s l w o f z .1, λ n. go n best-end)
