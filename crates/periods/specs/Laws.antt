@@ -5,3 +5,4 @@ pub mod Lags
 pub mod Asked
 pub mod Theorems
 pub mod Delivered
+pub mod Routes

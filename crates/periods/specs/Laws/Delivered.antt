@@ -1,16 +1,15 @@
 -- T10 and T13: what a move changes in the answers to the two lag questions, and the sheet that the best lags deliver (demand 3), on bytes.
 -- Assumes nothing.
-use mathlib.Core.Path.{_≡_, refl, sym, ap, _∙_, subst}
+use mathlib.Core.Path.{_≡_, sym, ap, _∙_, subst}
 use mathlib.Core.Logic.{inl, inr}
 use mathlib.Core.List.{List, [], _∷_, _++_}
-use Prim.Native.Nat.{ℕ, _≤_, _<_}
+use Prim.Native.Nat.{ℕ, _<_}
 use native.Mathlib.Omega.{arith}
 use lib.IntN.{ℤ, pos, _+ℤ_, _-ℤ_}
-use lib.ListN.{length, take}
 use Rattle.sheet.specs.Core.{blocksIn, coreOf, shapeOf, registersIn}
 use Rattle.sheet.specs.Rules.{Rule, First, answer}
 use Rattle.sheet.specs.Sheet.{Formed, frameRules}
-use Rattle.sheet.specs.Laws.Integer.{up, down, plus, minus, parts-eq}
+use Rattle.sheet.specs.Laws.Integer.{plus, minus, parts-eq}
 use Rattle.sheet.specs.Laws.Rules.{skip}
 use Rattle.sheet.specs.Laws.Sheet.{framed-none}
 use Rattle.sheet.specs.Laws.Formed.{formed-core}
@@ -18,10 +17,10 @@ use Rattle.sheet.specs.declared.answer.Answer.{Answer}
 use Rattle.paths.specs.Table.{Period}
 use Rattle.paths.specs.Questions.{SoundSheet, soundRules, CheckRight}
 use Rattle.paths.specs.Laws.Questions.{sheet-sound, check-agrees, sound-checks}
-use Rattle.moves.specs.Lags.{lagsIn, Permitted, Meets, Moved}
-use Rattle.moves.specs.Move.{MovedSheet, MoveOutcome, MoveDone, MoveRight}
+use Rattle.moves.specs.Lags.{lagsIn, Permitted, Moved}
+use Rattle.moves.specs.Move.{MovedSheet}
 use Rattle.moves.specs.Laws.Sheets.{same-blocks, moved-core, moved-unique, moves-compose}
-use Rattle.moves.specs.Laws.Theorems.{moved-alike, moved-sound, move-means, permitted-moves}
+use Rattle.moves.specs.Laws.Theorems.{moved-alike, moved-sound}
 use Rattle.periods.specs.Lags.{Largest, Least}
 use Rattle.periods.specs.Questions.{PeriodDone, PeriodRight, LagsOutcome, LagsDone, LagsRight, BestDone, BestRight}
 use Rattle.periods.specs.Laws.Lags.{largest-unique, least-unique, permitted-less, meets-less, none-permitted-moved, none-meets-moved, largest-moved, least-moved, moved-period}

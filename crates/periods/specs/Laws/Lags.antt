@@ -1,16 +1,15 @@
 -- T1: largest lags and the least period are unique, and the least period is an entry of the path table; what a move does to them. All on cores.
 -- Assumes nothing.
-use mathlib.Core.Path.{_≡_, refl, sym, ap, _∙_, subst, fun-ext}
+use mathlib.Core.Path.{_≡_, refl, subst, fun-ext}
 use mathlib.Core.Logic.{_⊎_, inl, inr, _↔_}
 use mathlib.Core.List.{List, []}
-use Prim.Native.Nat.{ℕ, zero, suc, _+_, _-_, _≤_, _<_}
+use Prim.Native.Nat.{ℕ, zero, suc, _-_, _≤_, _<_}
 use native.Mathlib.Omega.{arith}
 use native.Mathlib.Decide.{ℕ-discrete, decLt}
-use lib.IntN.{ℤ, pos, _+ℤ_, _-ℤ_}
-use lib.Signed.{_≤ℤ_}
+use lib.IntN.{ℤ, _+ℤ_, _-ℤ_}
 use Rattle.sheet.specs.Core.{Core}
 use Rattle.sheet.specs.Sheet.{Formed}
-use Rattle.sheet.specs.Laws.Integer.{up, down, plus, minus, le-parts, parts-le, parts-eq}
+use Rattle.sheet.specs.Laws.Integer.{up, plus, minus, le-parts, parts-le, parts-eq}
 use Rattle.paths.specs.Path.{Joins, registersOn, delayOn}
 use Rattle.paths.specs.Table.{Best, Entry, best, none, Period}
 use Rattle.paths.specs.Laws.Same.{same-sym, joins-same, delay-same}

@@ -6,8 +6,8 @@ use mathlib.Core.List.{List}
 use Prim.Native.Nat.{ℕ, _≤_}
 use native.Mathlib.Omega.{arith}
 use lib.IntN.{ℤ}
-use lib.ListN.{length, take}
-use Rattle.sheet.specs.Core.{blocksIn, coreOf}
+use lib.ListN.{take}
+use Rattle.sheet.specs.Core.{coreOf}
 use Rattle.sheet.specs.Rules.{First, answer}
 use Rattle.sheet.specs.declared.answer.Answer.{Answer}
 use Rattle.paths.specs.Questions.{SoundSheet}
@@ -17,7 +17,7 @@ use Rattle.loops.specs.Link.{ValidLoop}
 use Rattle.loops.specs.Loop.{LoopRight}
 use Rattle.loops.specs.Laws.Question.{loop-agrees, loop-rest, loop-yes}
 use Rattle.periods.specs.Lags.{NonePermitted, NoneMeets, LoopGiven, PlainLoop}
-use Rattle.periods.specs.Questions.{LagsOutcome, wordsNeeded, LagsDone, LagsRefused, lagsLast, LagsRight, BestDone, bestLast, BestRight}
+use Rattle.periods.specs.Questions.{LagsOutcome, LagsDone, LagsRefused, lagsLast, LagsRight, BestDone, bestLast, BestRight}
 use Rattle.periods.specs.Laws.Asked.{LongLists, asked-means, asked-reached}
 
 -- ---- the three ends of lags at period c, and the two of best period
@@ -46,6 +46,10 @@ module _ (s : List ℕ) (c : ℕ) (l : List ℤ) (w : List ℕ) (o : LagsOutcome
   lags-mean h = elim (asked-means s l w (lagsLast s c l w) o h) [ inl e ↦ inl e | inr r ↦ inr (r .sound, lags-last (r .ends-with)) ]
 
   module _ (h : LagsRight s c l w o) where
+    -- with 0 both lists were long enough
+    pub lags-long : o .says .number ≡ 0 → LongLists s l w
+    lags-long z = elim (asked-means s l w (lagsLast s c l w) o h) [ inl e ↦ absurd (omega (arith, e)) | inr r ↦ r .long ]
+
     pub lags-mean-done : o .says .number ≡ 0 → SoundSheet s × LagsDone s c 0 l w o
     lags-mean-done z = go (lags-mean h)
       where
@@ -83,6 +87,9 @@ module _ (s : List ℕ) (l : List ℤ) (w : List ℕ) (o : LagsOutcome) where
   best-means h = elim (asked-means s l w (bestLast s l w) o h) [ inl e ↦ inl e | inr r ↦ inr (r .sound, best-last (r .ends-with)) ]
 
   module _ (h : BestRight s l w o) where
+    pub best-long : o .says .number ≡ 0 → LongLists s l w
+    best-long z = elim (asked-means s l w (bestLast s l w) o h) [ inl e ↦ absurd (omega (arith, e)) | inr r ↦ r .long ]
+
     pub best-means-done : o .says .number ≡ 0 → SoundSheet s × BestDone s l w o
     best-means-done z = go (best-means h)
       where
