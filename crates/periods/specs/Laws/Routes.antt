@@ -2,11 +2,11 @@
 -- Assumes nothing.
 use mathlib.Core.Path.{_≡_, ap, _∙_}
 use mathlib.Core.List.{List}
-use Prim.Native.Nat.{ℕ, _≤_}
+use Prim.Native.Nat.{ℕ, _≤_, _<_}
 use native.Mathlib.Omega.{arith}
-use lib.IntN.{ℤ}
+use lib.IntN.{ℤ, pos}
 use lib.ListN.{length, take}
-use Rattle.sheet.specs.Core.{blocksIn, coreOf}
+use Rattle.sheet.specs.Core.{blocksIn}
 use Rattle.sheet.specs.Rules.{answer}
 use Rattle.sheet.specs.declared.answer.Answer.{Answer}
 use Rattle.paths.specs.Questions.{CheckRight}
@@ -16,7 +16,7 @@ use Rattle.moves.specs.Laws.Theorems.{move-means, permitted-moves}
 use Rattle.periods.specs.Questions.{LagsOutcome, LagsRight, BestRight, PeriodRight}
 use Rattle.periods.specs.Laws.Asked.{LongLists}
 use Rattle.periods.specs.Laws.Theorems.{lags-mean-done, lags-long, best-means-done, best-long}
-use Rattle.periods.specs.Laws.Delivered.{Follows, lags-follow, best-follow}
+use Rattle.periods.specs.Laws.Delivered.{Follows, lags-follow, best-follow, delivered-checks, delivered-period, delivered-lags, delivered-best}
 
 -- ---- a sheet can be moved by the lags found on it
 module _ (s : List ℕ) (l : List ℤ) (w : List ℕ) (o : LagsOutcome) (z : o .says .number ≡ 0) (l₁ : List ℕ) (m : MoveOutcome) (room : length s ≤ length l₁) (h : MoveRight s (o .lags) l₁ m) where
@@ -63,3 +63,29 @@ module _ (s : List ℕ) (lags : List ℤ) (l₁ : List ℕ) (m : MoveOutcome) (h
           f .delivered-same z (take (length s) (m₂ .moved)) (take (length s′) (m₃ .moved))
           (best-deliver s l w o z l₂ m₂ room₂ h₂ a .moved-sheet)
           (best-deliver s′ l′ w′ o′ (f .number-same ∙ z) l₃ m₃ room₃ h₃ a′ .moved-sheet)
+
+-- ---- T13: what the questions say of a delivered sheet t whose best period is p
+pub record Delivered (t : List ℕ) (p : ℕ) : Type 0 where
+  -- check answers 0
+  pub checks : (a : Answer) → CheckRight t a → a ≡ answer 0 0 0
+  -- its period as it stands is p
+  pub stands : (a : Answer) → PeriodRight t a → a ≡ answer 0 0 p
+  -- its own largest lags at p are all 0, and its best period is p with the same lags
+  pub own-lags : (l : List ℤ) (w : List ℕ) (o : LagsOutcome) → LongLists t l w → LagsRight t p l w o → (o .says ≡ answer 0 0 0) × ((b : ℕ) → b < blocksIn t → lagsIn (o .lags) b ≡ pos 0)
+  pub own-best : (l : List ℤ) (w : List ℕ) (o : LagsOutcome) → LongLists t l w → BestRight t l w o → (o .says ≡ answer 0 0 p) × ((b : ℕ) → b < blocksIn t → lagsIn (o .lags) b ≡ pos 0)
+
+-- ask for the best period p, move by its lags: the move answers 0, and the sheet is delivered
+pub best-delivered : (s : List ℕ) (l : List ℤ) (w : List ℕ) (o : LagsOutcome) (p : ℕ) (l₁ : List ℕ) (m : MoveOutcome) → BestRight s l w o → o .says ≡ answer 0 0 p
+    → length s ≤ length l₁ → MoveRight s (o .lags) l₁ m → (m .says ≡ answer 0 0 0) × Delivered (take (length s) (m .moved)) p
+best-delivered s l w o p l₁ m a e room h =
+    let d = best-deliver s l w o (ap (λ (x : Answer). x .number) e) l₁ m room h a in
+    let t = take (length s) (m .moved) in
+    let mv = d .moved-sheet in (
+      d .says-done,
+      record {
+        checks = delivered-checks s l w o a p e t mv;
+        stands = delivered-period s l w o a p e t mv;
+        own-lags = delivered-lags s l w o a p e t mv;
+        own-best = delivered-best s l w o a p e t mv;
+      },
+    )
