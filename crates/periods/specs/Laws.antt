@@ -2,6 +2,7 @@
 pub mod Rules
 pub mod Period
 pub mod Lags
+pub mod Search
 pub mod Asked
 pub mod Theorems
 pub mod Delivered

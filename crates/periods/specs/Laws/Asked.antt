@@ -69,6 +69,7 @@ module _ (s : List ℕ) (l : List ℤ) (w : List ℕ) (last : List (Rule LagsOut
     needed : n * (n + 2) ≡ wordsNeeded (blocksIn s)
     needed = rw n-is
 
+    -- place "0 if the first list is, else 1"
     pub lags-short : length l < n → AskedAfter (lagsOutcome (answer 4 0 0) l w)
     lags-short h = ends keep (lagRoom s l w) afterRoom (answer 4 0 0) (inl (omega arith, refl))
 
@@ -93,12 +94,14 @@ module _ (s : List ℕ) (l : List ℤ) (w : List ℕ) (last : List (Rule LagsOut
     pub long : LongLists s l w
     pub ends-with : First last o
 
+  -- on a sound sheet with long lists the last rules are reached
   pub asked-reached : SoundSheet s → LongLists s l w → (o : LagsOutcome) → Asked o → First last o
   asked-reached h long o f =
       skip-stage keep (soundRules s) last o (sheet-sound s h)
       (skip-stage keep (lagRoom s l w) afterRoom o (asked-roomy (blocksIn s) refl (long .lags-long) (long .words-long))
       (skip-stage keep (frameRules s) afterFrame o (framed-none s (h .formed .framed)) f))
 
+  -- refused with 1 to 7
   abbrev Early : LagsOutcome → Type 0
   Early o = (1 ≤ o .says .number) × (o .says .number ≤ 7)
 
@@ -119,9 +122,11 @@ module _ (s : List ℕ) (l : List ℤ) (w : List ℕ) (last : List (Rule LagsOut
   sound-early o (inr (x, inr (y, inl f))) = numbered (o .says) (answer 7 (f .1 .0) 0) (omega arith) (omega arith) (f .1 .3)
   sound-early o (inr (x, inr (y, inr f))) = absurd (f .1)
 
+  -- where 4 does not apply the lists are long enough
   long-of : None (lagRoom s l w) → LongLists s l w
   long-of n = record { lags-long = omega (arith, n .0); words-long = omega (arith, n .1 .0) }
 
+  -- one or the other
   pub asked-means : (o : LagsOutcome) → Asked o → ((1 ≤ o .says .number) × (o .says .number ≤ 7)) ⊎ Reached o
   asked-means o h = frame (unstage keep says (λ a. refl) (frameRules s) afterFrame o h)
     where
@@ -150,33 +155,40 @@ module _ (s : List ℕ) (l : List ℤ) (w : List ℕ) (last : List (Rule LagsOut
 
 -- ---- the last rules, one by one
 module _ (s : List ℕ) (l : List ℤ) (w : List ℕ) (o : LagsOutcome) where
+  -- best period: no permitted lags exist
   pub best-none : NonePermitted (coreOf s) → LagsRefused s 10 (PlainLoop (coreOf s)) l w o → First (bestLast s l w) o
   best-none h r = inl (h, r)
 
+  -- the least period with the largest lags that meet it
   pub best-done : BestDone s l w o → First (bestLast s l w) o
   best-done d = inr (λ h. h (d .least .lags) (d .least .met .permitted), inl (tt, d))
 
   module _ (c : ℕ) where
+    -- lags at period c: no permitted lags exist
     pub lags-none : NonePermitted (coreOf s) → LagsRefused s 10 (PlainLoop (coreOf s)) l w o → First (lagsLast s c l w) o
     lags-none h r = inl (h, r)
 
+    -- permitted lags exist, none meets c
     pub lags-slow : (q : ℕ → ℤ) → Permitted (coreOf s) q → ((r : ℕ → ℤ) → Meets (coreOf s) c r → ⊥) → LagsRefused s 11 (LoopGiven (coreOf s) c) l w o → First (lagsLast s c l w) o
     lags-slow q p h r = inr (λ g. g q p, inl (record { lags = q; permitted = p; none = h }, r))
 
+    -- the largest lags that meet c
     pub lags-done : LagsDone s c 0 l w o → First (lagsLast s c l w) o
     lags-done d =
         let m = d .largest .meets in
         inr (λ h. h (lagsIn (o .lags)) (m .permitted), inr (λ h. h .none (lagsIn (o .lags)) m, inl (tt, d)))
 
--- the loops say so themselves
+-- a loop given with 10 says that no permitted lags exist
 pub plain-none : (c : Core) → Formed c → (words : List ℕ) → PlainLoop c words → NonePermitted c
 plain-none c f words h = rules-all-out c f 0 words (h .given 0 .valid) (h .plain 0)
 
+-- a loop given with 11 says that none meets the period
 pub given-none : (c : Core) → Formed c → (p : ℕ) (words : List ℕ) → LoopGiven c p words → (r : ℕ → ℤ) → Meets c p r → ⊥
 given-none c f p words h = rules-out c f p words (h .valid)
 
 -- ---- T7
 module _ (s : List ℕ) (l : List ℤ) (w : List ℕ) (o p : LagsOutcome) where
+  -- lags found at one period, in lists kept past them, are one outcome
   done-equal : (c v : ℕ) → LagsDone s c v l w o → LagsDone s c v l w p → o ≡ p
   done-equal c v a b =
       let e = a .says-done ∙ sym (b .says-done) in
@@ -191,6 +203,7 @@ module _ (s : List ℕ) (l : List ℤ) (w : List ℕ) (o p : LagsOutcome) where
       ∙ ap (λ (x : List ℤ). lagsOutcome (p .says) x (o .words)) f
       ∙ ap (λ (x : List ℕ). lagsOutcome (p .says) (p .lags) x) g
 
+  -- 10 and 11 differ in the loop and its count alone
   refused-alike : (k : ℕ) (L : List ℕ → Type 0) → (k ≡ 10) ⊎ (k ≡ 11) → LagsRefused s k L l w o → LagsRefused s k L l w p → Alike o p
   refused-alike k L which a b =
       let ea = ap (λ (x : Answer). x .number) (a .says-refused) in
@@ -205,11 +218,13 @@ module _ (s : List ℕ) (l : List ℤ) (w : List ℕ) (o p : LagsOutcome) where
         else-same = λ f g. elim which [ inl q ↦ absurd (f (ea ∙ q)) | inr q ↦ absurd (g (ea ∙ q)) ];
       }
 
+-- two right outcomes of lags at period c are alike
 pub lags-agrees : (s : List ℕ) (c : ℕ) (l : List ℤ) (w : List ℕ) (o p : LagsOutcome) → LagsRight s c l w o → LagsRight s c l w p → Alike o p
 lags-agrees s c l w =
     asked-agrees s l w (lagsLast s c l w)
     (λ o p. refused-alike s l w o p 10 (PlainLoop (coreOf s)) (inl refl), (λ o p. refused-alike s l w o p 11 (LoopGiven (coreOf s) c) (inr refl), (λ o p a b. subst (Alike o) (done-equal s l w o p c 0 a b) (itself o), tt)))
 
+-- and two of best period
 pub best-agrees : (s : List ℕ) (l : List ℤ) (w : List ℕ) (o p : LagsOutcome) → BestRight s l w o → BestRight s l w p → Alike o p
 best-agrees s l w = asked-agrees s l w (bestLast s l w) (λ o p. refused-alike s l w o p 10 (PlainLoop (coreOf s)) (inl refl), (both, tt))
   where

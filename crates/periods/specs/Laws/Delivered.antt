@@ -62,6 +62,7 @@ module _ (s : List ℕ) (r : ℕ → ℤ) (s′ : List ℕ) (h : SoundSheet s) (
       moved-unique s (h .formed) q t t′ m (moved-alike s (h .formed) (λ b. r b +ℤ q′ b) q t′ back y)
 
   module _ (o o′ : LagsOutcome) where
+    -- both refused alike
     refused-follow : (k v v′ : ℕ) → 0 < k → o .says ≡ answer k 0 v → o′ .says ≡ answer k 0 v′ → Follows s r s′ o o′
     refused-follow k v v′ g e e′ =
         let n = ap (λ (x : Answer). x .number) e in
@@ -73,6 +74,7 @@ module _ (s : List ℕ) (r : ℕ → ℤ) (s′ : List ℕ) (h : SoundSheet s) (
           delivered-same = λ z. absurd (omega arith);
         }
 
+    -- both done, at one period
     done-follow : (c v : ℕ) (l l′ : List ℤ) (w w′ : List ℕ) → LagsDone s c v l w o → LagsDone s′ c v l′ w′ o′ → Follows s r s′ o o′
     done-follow c v l l′ w w′ d d′ =
         let e : o′ .says ≡ o .says = d′ .says-done ∙ sym (d .says-done) in
@@ -88,6 +90,7 @@ module _ (s : List ℕ) (r : ℕ → ℤ) (s′ : List ℕ) (h : SoundSheet s) (
   -- ---- T10, lags at every period, refusals included
   module _ (l l′ : List ℤ) (w w′ : List ℕ) (long : LongLists s l w) (long′ : LongLists s′ l′ w′) (o o′ : LagsOutcome) where
     module _ (c : ℕ) (a : LagsRight s c l w o) (a′ : LagsRight s′ c l′ w′ o′) where
+      -- by the way in which it ended on s
       lags-by : LagsEnd s c l w o → Follows s r s′ o o′
       lags-by (forbidden x y) =
           let z = lags-ten s′ l′ w′ sound′ long′ o′ c a′ .1 (none-permitted-moved (coreOf s) (coreOf s′) r mc f x) in
@@ -107,6 +110,7 @@ module _ (s : List ℕ) (r : ℕ → ℤ) (s′ : List ℕ) (h : SoundSheet s) (
 
     -- ---- T10, best period
     module _ (a : BestRight s l w o) (a′ : BestRight s′ l′ w′ o′) where
+      -- by the way in which it ended on s
       best-by : BestEnd s l w o → Follows s r s′ o o′
       best-by (forbidden x y) =
           let z = best-ten s′ l′ w′ sound′ long′ o′ a′ .1 (none-permitted-moved (coreOf s) (coreOf s′) r mc f x) in
@@ -149,6 +153,7 @@ module _ (s : List ℕ) (l : List ℤ) (w : List ℕ) (o : LagsOutcome) (a : Bes
   formed : Formed (coreOf s)
   formed = formed-core s (means .0 .formed)
 
+  -- it is sound
   pub delivered-sound : SoundSheet t
   delivered-sound = moved-sound s (lagsIn (o .lags)) t (means .0) allowed m
 

@@ -46,7 +46,7 @@ below-some P (suc m) d = go (d m (omega arith)) (below-some P m (λ k h. d k (om
     go : P m ⊎ (P m → ⊥) → ((k : ℕ) × (k < m) × P k) ⊎ ((k : ℕ) → k < m → P k → ⊥) → ((k : ℕ) × (k < suc m) × P k) ⊎ ((k : ℕ) → k < suc m → P k → ⊥)
     go (inl y) e = inl (m, omega arith, y)
     go (inr f) (inl e) = inl (e .0, omega (arith, e .1), e .2)
-    go (inr f) (inr e) = inr (λ k h y. elim (decLt k m) [ yes l ↦ e k l y | no l ↦ f (subst P (let q : k ≡ m = omega arith in q) y) ])
+    go (inr f) (inr e) = inr (λ k h y. elim (decLt k m) [ yes l ↦ e k l y | no l ↦ let q : k ≡ m = omega arith in f (subst P q y) ])
 
 -- ---- 01: "the least may be any entry of the path table": it is one of them
 module _ (c : Core) (f : Formed c) (Wt Dt : ℕ → ℕ → ℕ)
@@ -56,6 +56,7 @@ module _ (c : Core) (f : Formed c) (Wt Dt : ℕ → ℕ → ℕ)
     pub entry : Best (c .shape) (c .registers) u v (Wt u v) (Dt u v)
     pub delay-is : Dt u v ≡ p
 
+  -- whether it is so can be told
   entry-is : (u v : ℕ) → Entry (c .shape) (c .registers) u v (Wt u v) (Dt u v) → EntryIs u v ⊎ (EntryIs u v → ⊥)
   entry-is u v (best b) = elim (ℕ-discrete (Dt u v) p) [ yes e ↦ inl (record { entry = b; delay-is = e }) | no e ↦ inr (λ x. e (x .delay-is)) ]
   entry-is u v (none g a d) = inr (λ x. g (x .entry .way .wires) (x .entry .way .joins))
@@ -86,6 +87,7 @@ module _ (c : Core) (f : Formed c) (Wt Dt : ℕ → ℕ → ℕ)
       shorter : delayOn (c .shape) u ws < p
       shorter = let hu = joins-start-lt (c .shape) u ws v j in let hv = joins-end-lt (c .shape) u ws v j in shorter-by hu hv (table u v hu hv)
 
+    -- so the lags would meet the period before p
     none-least : ⊥
     none-least =
         let x : ℕ → ℕ = λ j. up (movedBy c (l .lags) j) in
@@ -93,6 +95,7 @@ module _ (c : Core) (f : Formed c) (Wt Dt : ℕ → ℕ → ℕ)
         let m : Meets c (p - 1) (l .lags) = record { permitted = l .met .permitted; quick = λ y my u v ws j z. omega (arith, shorter y my u v ws j z) } in
         omega (arith, host, l .least (p - 1) (l .lags) m)
 
+  -- the least period is an entry of the path table
   pub least-entry : Least c p → LeastEntry
   least-entry l = found (below-some Row (c .shape .n) (λ u hu. row u hu (below-some (EntryIs u) (c .shape .n) (λ v hv. entry-is u v (table u v hu hv)))))
     where
@@ -109,22 +112,22 @@ module _ (c : Core) (f : Formed c) (Wt Dt : ℕ → ℕ → ℕ)
 
 -- ---- a move takes its lags off the largest, and leaves the least period and both refusals as they are
 module _ (c c′ : Core) (r : ℕ → ℤ) (mv : Moved c r c′) (f : Formed c) where
-  -- lags q, less those already moved by
-  abbrev pub less : (ℕ → ℤ) → ℕ → ℤ
-  less q b = q b -ℤ r b
-
+  -- lags q are those already moved by and the rest
   whole : (q : ℕ → ℤ) → q ≡ (λ b. r b +ℤ (q b -ℤ r b))
   whole q = fun-ext (λ b. parts-eq (q b) (r b +ℤ (q b -ℤ r b)) (omega (arith, plus (r b) (q b -ℤ r b), minus (q b) (r b))))
 
+  -- permitted lags, and lags that meet a period, do so on the moved core once r is taken off
   pub permitted-less : (q : ℕ → ℤ) → Permitted c q → Permitted c′ (λ b. q b -ℤ r b)
   permitted-less q h = permitted-before c c′ r mv f (λ b. q b -ℤ r b) (subst (Permitted c) (whole q) h)
 
   pub meets-less : (p : ℕ) (q : ℕ → ℤ) → Meets c p q → Meets c′ p (λ b. q b -ℤ r b)
   meets-less p q h = meets-before c c′ r mv f (λ b. q b -ℤ r b) p (subst (Meets c p) (whole q) h)
 
+  -- no permitted lags exist on the moved core either
   pub none-permitted-moved : NonePermitted c → NonePermitted c′
   none-permitted-moved h t k = h (λ b. r b +ℤ t b) (permitted-after c c′ r mv f t k)
 
+  -- permitted lags exist on the moved core too, and none meets p
   pub none-meets-moved : (p : ℕ) → NoneMeets c p → NoneMeets c′ p
   none-meets-moved p h = record {
     lags = λ b. h .lags b -ℤ r b;
@@ -132,6 +135,7 @@ module _ (c c′ : Core) (r : ℕ → ℤ) (mv : Moved c r c′) (f : Formed c) 
     none = λ t k. h .none (λ b. r b +ℤ t b) (meets-after c c′ r mv f t p k);
   }
 
+  -- the largest lags on the moved core are those on the core less r
   pub largest-moved : (p : ℕ) (q : ℕ → ℤ) → Largest c p q → Largest c′ p (λ b. q b -ℤ r b)
   largest-moved p q a = record {
     meets = meets-less p q (a .meets);
@@ -140,6 +144,7 @@ module _ (c c′ : Core) (r : ℕ → ℤ) (mv : Moved c r c′) (f : Formed c) 
         parts-le (t b) (q b -ℤ r b) (omega (arith, le-parts (r b +ℤ t b) (q b) g, plus (r b) (t b), minus (q b) (r b)));
   }
 
+  -- the least period is the same
   pub least-moved : (p : ℕ) → Least c p → Least c′ p
   least-moved p a = record {
     lags = λ b. a .lags b -ℤ r b;
@@ -160,6 +165,7 @@ module _ (c c′ : Core) (r : ℕ → ℤ) (mv : Moved c r c′) (f : Formed c) 
           d .way .delay-is,
         )
 
+    -- and the lags meet it
     met-period : Meets c q r
     met-period = record {
       permitted = h;
@@ -173,5 +179,6 @@ module _ (c c′ : Core) (r : ℕ → ℤ) (mv : Moved c r c′) (f : Formed c) 
           );
     }
 
+    -- so they meet p exactly if the moved period is at most p
     pub moved-period : (p : ℕ) → Meets c p r ↔ (q ≤ p)
     moved-period p = (period-met p, λ k. meets-longer c q p r met-period k)

@@ -20,6 +20,7 @@ use Rattle.periods.specs.Laws.Delivered.{Follows, lags-follow, best-foll
 
 -- ---- a sheet can be moved by the lags found on it
 module _ (s : List ℕ) (l : List ℤ) (w : List ℕ) (o : LagsOutcome) (z : o .says .number ≡ 0) (l₁ : List ℕ) (m : MoveOutcome) (room : length s ≤ length l₁) (h : MoveRight s (o .lags) l₁ m) where
+  -- move answers 0 and writes the moved sheet
   pub lags-deliver : (c : ℕ) → LagsRight s c l w o → MoveDone s (lagsIn (o .lags)) l₁ m
   lags-deliver c a =
       let d = lags-mean-done s c l w o a z in
