@@ -1,3 +1,9 @@
 -- Laws about the definitions of specs/, for proofs and for the crates above.
 pub mod Rules
 pub mod Period
+pub mod Lags
+pub mod Search
+pub mod Asked
+pub mod Theorems
+pub mod Delivered
+pub mod Routes

@@ -3,7 +3,7 @@ use mathlib.Core.Path.{_≡_}
 use mathlib.Core.List.{List, [], _∷_, _++_}
 use Prim.Native.Nat.{ℕ, _+_, _*_, _≤_}
 use lib.IntN.{ℤ}
-use lib.ListN.{length, take}
+use lib.ListN.{length, getD, take}
 use Rattle.sheet.specs.Core.{blocksIn, registersIn, shapeOf, coreOf}
 use Rattle.sheet.specs.Rules.{Rule, First, answer, stage}
 use Rattle.sheet.specs.Sheet.{frameRules}
@@ -83,3 +83,14 @@ bestAfterFrame s l w = stage (λ a. lagsOutcome a l w) (lagRoom s l w) ++ (stage
 
 abbrev pub BestRight : List ℕ → List ℤ → List ℕ → LagsOutcome → Type 0
 BestRight s l w o = First (stage (λ a. lagsOutcome a l w) (frameRules s) ++ bestAfterFrame s l w) o
+
+-- ---- how far two right outcomes agree. 01: "The one listed exception [..] is which valid loop, with its word count, accompanies 10 or 11."
+pub record Alike (o p : LagsOutcome) : Type 0 where
+  pub number-same : o .says .number ≡ p .says .number
+  pub place-same : o .says .place ≡ p .says .place
+  pub lags-same : o .lags ≡ p .lags
+  pub words-long : length (o .words) ≡ length (p .words)
+  -- past the words that both count
+  pub words-past : (i : ℕ) → o .says .value ≤ i → p .says .value ≤ i → getD (o .words) i 0 ≡ getD (p .words) i 0
+  -- unless the number is 10 or 11
+  pub else-same : (o .says .number ≡ 10 → ⊥) → (o .says .number ≡ 11 → ⊥) → o ≡ p

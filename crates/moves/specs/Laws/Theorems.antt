@@ -11,9 +11,9 @@ use lib.Signed.{mag, _≤ℤ_}
 use lib.ListN.{length, getD, take}
 use lib.Seq.{ext-getD, getD-take}
 use Rattle.sheet.specs.Core.{coreOf, blocksIn, wiresIn, lowerIn, upperIn, fromIn, toIn, registersIn}
-use Rattle.sheet.specs.Rules.{Rule, First, None, Tight, Exact, answer, stage}
+use Rattle.sheet.specs.Rules.{Rule, First, Tight, Exact, answer, stage}
 use Rattle.sheet.specs.Sheet.{FormedSheet, frameRules}
-use Rattle.sheet.specs.Laws.Rules.{agree, tight-both, exact-tight, stage-exact, refusal-exact, place-exact, past-stage, NonZero, place-nonzero}
+use Rattle.sheet.specs.Laws.Rules.{agree, tight-both, exact-tight, stage-exact, refusal-exact, place-exact, skip-stage, past-stage, NonZero, place-nonzero}
 use Rattle.sheet.specs.Laws.Sheet.{framed-none}
 use Rattle.sheet.specs.Laws.Formed.{formed-core, frame-exact, frame-nonzero}
 use Rattle.sheet.specs.declared.answer.Answer.{Answer}
@@ -109,12 +109,6 @@ module _ (s : List ℕ) (lags : List ℤ) (l : List ℕ) where
       (done-like, tt)))))
       o p h k (λ z. move-means s lags l o h z .sound .formed)
 
--- a stage of which no rule applies is passed over
-skip-stage : {A : Type 0} (keep : Answer → A) (rs : List (Rule Answer)) (ts : List (Rule A)) (o : A) → None rs → First (stage keep rs ++ ts) o → First ts o
-skip-stage keep [] ts o n f = f
-skip-stage keep (r ∷ rs) ts o n (inl f) = absurd (n .0 (f .0))
-skip-stage keep (r ∷ rs) ts o n (inr f) = skip-stage keep rs ts o (n .1) (f .1)
-
 -- a lag outside its range is refused with 8
 first-eight : (s : List ℕ) (t : List ℤ) (l : List ℕ) (o : MoveOutcome) (b : ℕ) → b < blocksIn s → (InRange (coreOf s) (lagsIn t) b → ⊥)
     → First (stage (λ a. moveOutcome a l) (lagRules s (lagsIn t)) ++ last s t l) o → o .says .number ≡ 8
@@ -123,8 +117,18 @@ first-eight s t l o b h out (inl f) =
     ap (λ (x : MoveOutcome). x .says .number) (g .2) ∙ ap (λ (x : Answer). x .number) (g .1 .3)
 first-eight s t l o b h out (inr f) = absurd (f .0 (b, h, out))
 
+-- permitted lags move a sound sheet, where the lists are long enough
+pub permitted-moves : (s : List ℕ) (lags : List ℤ) (l : List ℕ) (o : MoveOutcome) → SoundSheet s → Permitted (coreOf s) (lagsIn lags) → blocksIn s ≤ length lags → length s ≤ length l
+    → MoveRight s lags l o → MoveDone s (lagsIn lags) l o
+permitted-moves s lags l o h p g k f =
+    last-done s lags l o
+    (skip-stage (keep s lags l) (lagRules s (lagsIn lags)) (last s lags l) o (permitted-none s (lagsIn lags) p)
+    (skip-stage (keep s lags l) (soundRules s) (afterSound s lags l) o (sheet-sound s h)
+    (skip-stage (keep s lags l) (room s lags l) (stage (keep s lags l) (soundRules s) ++ afterSound s lags l) o (λ w. omega arith, (λ w. omega arith, tt))
+    (skip-stage (keep s lags l) (frameRules s) (moveAfterFrame s lags l) o (framed-none s (h .formed .framed)) f))))
+
 -- lags that agree on the blocks move a sheet alike
-moved-alike : (s : List ℕ) → FormedSheet s → (q r : ℕ → ℤ) (t : List ℕ) → ((b : ℕ) → b < blocksIn s → q b ≡ r b) → MovedSheet s q t → MovedSheet s r t
+pub moved-alike : (s : List ℕ) → FormedSheet s → (q r : ℕ → ℤ) (t : List ℕ) → ((b : ℕ) → b < blocksIn s → q b ≡ r b) → MovedSheet s q t → MovedSheet s r t
 moved-alike s f q r t e m = record {
   bytes = m .bytes;
   long = m .long;

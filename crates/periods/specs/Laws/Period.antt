@@ -1,6 +1,6 @@
 -- T2: the period is the largest delay among entries with 0 registers; and how the question period ends.
 -- Assumes nothing.
-use mathlib.Core.Path.{_≡_, refl, sym, ap, _∙_, subst}
+use mathlib.Core.Path.{_≡_, refl, sym, ap, _∙_}
 use mathlib.Core.Logic.{_⊎_, inl, inr}
 use mathlib.Core.List.{List, [], _∷_, _++_}
 use Prim.Native.Nat.{ℕ, zero, suc, _+_, _*_, _/_, _%_, _≤_, _<_}
@@ -12,7 +12,7 @@ use lib.ListN.{length, getD, replicate, length-replicate}
 use Rattle.sheet.specs.Core.{blocksIn, registersIn, shapeOf}
 use Rattle.sheet.specs.Rules.{Rule, First, None, Exact, answer, stage}
 use Rattle.sheet.specs.Sheet.{frameRules}
-use Rattle.sheet.specs.Laws.Rules.{agree, tight-both, first-left, first-right}
+use Rattle.sheet.specs.Laws.Rules.{agree, tight-both, first-left, first-right, unstage}
 use Rattle.sheet.specs.Laws.Formed.{frame-exact, none-framed}
 use Rattle.sheet.specs.Laws.Sheet.{framed-none}
 use Rattle.sheet.specs.declared.answer.Answer.{Answer}
@@ -124,18 +124,6 @@ period-agrees s =
     one a b f g = f .2 ∙ ap (answer 0 0) (period-unique s (f .0) (g .0) (f .1) (g .1)) ∙ sym (g .2)
 
 -- ---- from the table's answer to the period's
-unstage : {A : Type 0} (keep : Answer → A) (says : A → Answer) → ((a : Answer) → says (keep a) ≡ a) → (rs : List (Rule Answer)) (ts : List (Rule A)) (o : A)
-    → First (stage keep rs ++ ts) o → First rs (says o) ⊎ (None rs × First ts o)
-unstage keep says back [] ts o f = inr (tt, f)
-unstage keep says back (r ∷ rs) ts o (inl f) =
-    let e : says o ≡ f .1 .0 = ap says (f .1 .2) ∙ back (f .1 .0) in
-    inl (inl (f .0, subst (r .gives) (sym e) (f .1 .1)))
-unstage keep says back (r ∷ rs) ts o (inr f) = go (unstage keep says back rs ts o (f .1))
-  where
-    go : First rs (says o) ⊎ (None rs × First ts o) → First (r ∷ rs) (says o) ⊎ (None (r ∷ rs) × First ts o)
-    go (inl g) = inl (inr (f .0, g))
-    go (inr g) = inr ((f .0, g .0), g .1)
-
 pub longest-step : (registers delays : List ℕ) (k m r : ℕ) → Longest registers delays k m → Longer (getD registers k 0) (getD delays k 0) m r → Longest registers delays (k + 1) r
 longest-step registers delays k m r l (inl g) = rw (g .2) (longest-better registers delays k m l (g .0) (g .1))
 longest-step registers delays k m r l (inr g) = rw (g .1) (longest-same registers delays k m l (g .0))

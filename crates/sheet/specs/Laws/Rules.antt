@@ -53,6 +53,12 @@ module _ {A : Type 0} where
   none-right [] ts n = n
   none-right (r ∷ rs) ts n = none-right rs ts (n .1)
 
+  -- rules of which none applies are passed over
+  pub skip : (rs ts : List (Rule A)) (o : A) → None rs → First (rs ++ ts) o → First ts o
+  skip [] ts o n f = f
+  skip (r ∷ rs) ts o n (inl f) = absurd (n .0 (f .0))
+  skip (r ∷ rs) ts o n (inr f) = skip rs ts o (n .1) (f .1)
+
   -- ---- a stage of answers as a stage of a question
   module _ (keep : Answer → A) where
     pub stage-exact : (rs : List (Rule Answer)) → Exact rs → Exact (stage keep rs)
@@ -74,6 +80,23 @@ module _ {A : Type 0} where
 
     pub goes-on : (rs : List (Rule Answer)) (ts : List (Rule A)) (o : A) → None rs → First ts o → First (stage keep rs ++ ts) o
     goes-on rs ts o n f = first-right (stage keep rs) ts o (stage-none rs n) f
+
+-- a stage of which no rule applies is passed over
+pub skip-stage : {A : Type 0} (keep : Answer → A) (rs : List (Rule Answer)) (ts : List (Rule A)) (o : A) → None rs → First (stage keep rs ++ ts) o → First ts o
+skip-stage keep rs ts o n f = skip (stage keep rs) ts o (stage-none keep rs n) f
+
+-- a question ended at a stage, or none of its rules applied
+pub unstage : {A : Type 0} (keep : Answer → A) (says : A → Answer) → ((a : Answer) → says (keep a) ≡ a) → (rs : List (Rule Answer)) (ts : List (Rule A)) (o : A)
+    → First (stage keep rs ++ ts) o → First rs (says o) ⊎ (None rs × First ts o)
+unstage keep says back [] ts o f = inr (tt, f)
+unstage keep says back (r ∷ rs) ts o (inl f) =
+    let e : says o ≡ f .1 .0 = ap says (f .1 .2) ∙ back (f .1 .0) in
+    inl (inl (f .0, subst (r .gives) (sym e) (f .1 .1)))
+unstage keep says back (r ∷ rs) ts o (inr f) = go (unstage keep says back rs ts o (f .1))
+  where
+    go : First rs (says o) ⊎ (None rs × First ts o) → First (r ∷ rs) (says o) ⊎ (None (r ∷ rs) × First ts o)
+    go (inl g) = inl (inr (f .0, g))
+    go (inr g) = inr ((f .0, g .0), g .1)
 
 -- what a stage's result says once its case is known
 pub refused : (rs : List (Rule Answer)) (r : Stage) (a : Answer) → Staged rs r → r ≡ Refuse a → First rs a
