@@ -15,7 +15,7 @@ use sheet::frame::read_frame;
 mod loops; // refusal 7: the smallest block on a register-free loop
 mod row; // one row of the path table
 pub mod sound; // refusals 5, 6 and 7
-mod table; // the path table, row after row
+pub mod table; // the path table, row after row
 
 // Check a sheet whose header is right.
 fn check_framed(s: &[u8], n: usize, m: usize) -> Answer

@@ -4,3 +4,4 @@ pub mod Walk
 pub mod State
 pub mod Step
 pub mod Sweep
+pub mod Begun

@@ -22,6 +22,38 @@ pub record Given : Type 0 where
   pub registers : List ℕ
   pub delays : List ℕ
 
+-- the lists that code holds, as what the solver is given
+abbrev pub given : ℕ → ℕ → ℕ → List ℕ → List ℕ → List ℕ → List ℕ → List ℕ → List ℕ → List ℕ → List ℕ → Given
+given n m p lower upper from to wires ceilings registers delays = record {
+  n = n;
+  m = m;
+  period = p;
+  lower = lower;
+  upper = upper;
+  from = from;
+  to = to;
+  wires = wires;
+  ceilings = ceilings;
+  registers = registers;
+  delays = delays;
+}
+
+-- the same with another period
+abbrev pub atPeriod : Given → ℕ → Given
+atPeriod g p = record {
+  n = g .n;
+  m = g .m;
+  period = p;
+  lower = g .lower;
+  upper = g .upper;
+  from = g .from;
+  to = g .to;
+  wires = g .wires;
+  ceilings = g .ceilings;
+  registers = g .registers;
+  delays = g .delays;
+}
+
 -- rule i says lag(a) - lag(b) <= k: i is 1 for a path, 2 + j for wire j, 258 + j for the ceiling of wire j
 pub data Rule (g : Given) (i a b k : ℕ) : Type 0 where
   path : i ≡ 1 → a < g .n → b < g .n → g .period < getD (g .delays) (a * g .n + b) 0 → k ≡ getD (g .registers) (a * g .n + b) 0 + 32767 → Rule g i a b k
