@@ -5,3 +5,4 @@ pub mod State
 pub mod Step
 pub mod Sweep
 pub mod Begun
+pub mod Least

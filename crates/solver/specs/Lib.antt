@@ -1,4 +1,5 @@
 pub mod System
 pub mod Walk
 pub mod State
+pub mod Least
 pub mod Laws

@@ -5,6 +5,7 @@ ghost use Rattle.solver.specs.State.{State, Lists, Turned, AllHold, Sett
 use crate::sweep::sweep_paths;
 use crate::sweep::sweep_wires;
 
+pub mod least; // the least period that has a solution
 pub mod walk; // links followed from block to block
 mod relax; // one rule
 mod sweep; // the rules of all wires, of all ceilings, of the path table
