@@ -138,3 +138,48 @@ fn attempt(
         }
     }
 }
+
+// From lags at rest to the least period that has a solution, and the largest lags that meet it.
+pub fn least(
+    n: usize,
+    m: usize,
+    lower: &[u32; 64],
+    from: &[usize; 256],
+    to: &[usize; 256],
+    wires: &[u32; 256],
+    ceilings: &[u32; 256],
+    registers: &[u32; 4096],
+    delays: &[u32; 4096],
+    e: &mut [u32; 64],
+    par: &mut [usize; 64],
+    up: &mut [usize; 64],
+) -> u32
+    requires { ⌜ ((g : Given) × State g (now e) (now par) (now up) × AllHold g (now e) × Lists g (now lower) (now from) (now to) (now wires) (now ceilings) (now registers) (now delays) n m (g .period)) ⌝ }
+    ensures { λ r. ⌜ ((g : Given) → State g (now (e .entry)) (now (par .entry)) (now (up .entry)) → AllHold g (now (e .entry)) → Lists g (now (lower .entry)) (now (from .entry)) (now (to .entry)) (now (wires .entry)) (now (ceilings .entry)) (now (registers .entry)) (now (delays .entry)) n m (g .period) → LeastRest g r (now (e .exit)) (now (par .exit)) (now (up .exit))) ⌝ }
+{
+    let mut high = slowest(n, registers, delays, e);
+    let mut low = 0;
+    while low < high {
+        let middle = low + (high - low) / 2;
+        if attempt(
+            n,
+            m,
+            middle,
+            lower,
+            from,
+            to,
+            wires,
+            ceilings,
+            registers,
+            delays,
+            e,
+            par,
+            up,
+        ) {
+            high = slowest(n, registers, delays, e);
+            continue;
+        }
+        low = next_delay(n, delays, middle, high);
+    }
+    high
+}

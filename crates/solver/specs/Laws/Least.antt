@@ -192,3 +192,31 @@ next-end N h = record { within = N .within; beyond = N .beyond; none = λ i l. N
 
 pub row-end : {registers delays e : List ℕ} {n u v k best r : ℕ} → RowSlowest registers delays e n u v best r → k ≤ v → RowSlowest registers delays e n u k best r
 row-end R h = record { grows = R .grows; some = R .some; most = λ v l. R .most v (omega arith) }
+
+-- ---- the search, turn by turn
+module _ {g : Given} {lower from to wires ceilings registers delays : List ℕ} {n m : ℕ} (L : Lists g lower from to wires ceilings registers delays n m (g .period)) where
+  pub readable : {e par up : List ℕ} {p : ℕ} → State (atPeriod g p) e par up → Readable registers delays e n
+  readable St =
+      rw (L .registers-is, L .delays-is, L .n-is)
+      (record {
+        few = St .fit .few-blocks;
+        registers-long = St .fit .registers-long;
+        delays-long = St .fit .delays-long;
+        e-long = St .e-long;
+        small = St .fit .paths-small;
+        lags-small = λ b h. omega (arith, St .high b h, St .fit .upper-small b h);
+      })
+
+  pub search-rest : {e par up : List ℕ} {p r : ℕ} → AtRest g p e par up → Slowest registers delays e n n r → AtRest g r e par up × (r ≤ p)
+  search-rest A S = let S′ = rw (L .registers-is, L .delays-is, L .n-is) at S in (slowest-rest A S′, slowest-within A S′)
+
+  pub search-floor : {p most next : ℕ} → ((x : ℕ → ℕ) → Solution (atPeriod g p) x → ⊥) → NextDelay delays p most (n * n) next → Floor g next
+  search-floor bad N = let N′ = rw (L .delays-is, L .n-is) at N in floor-next g bad (N′ .none)
+
+-- at rest from another period's lists
+pub rest-at : (g : Given) (q : ℕ) {p : ℕ} {e par up : List ℕ} → AtRest (atPeriod g q) p e par up → AtRest g p e par up
+rest-at g q A = record { state = A .state; all = A .all }
+
+-- a period that failed left all as it was
+pub rest-same : {g : Given} {p : ℕ} {e par up e′ par′ up′ : List ℕ} → e′ ≡ e → par′ ≡ par → up′ ≡ up → AtRest g p e par up → AtRest g p e′ par′ up′
+rest-same qe qp qu A = rw (qe, qp, qu) A
