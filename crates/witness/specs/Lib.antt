@@ -1,2 +1,4 @@
 pub mod Stands
 pub mod Written
+pub mod Trace
+pub mod Laws

@@ -3,17 +3,13 @@ use mathlib.Core.Path.{_≡_}
 use mathlib.Core.List.{List, [], _∷_, map}
 use Prim.Native.Nat.{ℕ, suc, _+_, _*_, _≤_, _<_}
 use lib.IntN.{ℤ, pos, _-ℤ_}
-use lib.ListN.{length, set, take}
+use lib.ListN.{length, take}
+use lib.Seq.{sets}
 use Rattle.sheet.specs.Core.{Core}
 use Rattle.paths.specs.Table.{Best}
 use Rattle.paths.specs.Questions.{KeptFrom}
 use Rattle.paths.specs.Laws.Pigeons.{NoDup}
 use Rattle.loops.specs.Link.{Link, linkA, linkB, linkK, wordsOf, Good, ValidLoop, NoPath}
-
--- a list with the words l stored from place `at` on
-abbrev pub put : List ℕ → ℕ → List ℕ → List ℕ
-put words at [] = words
-put words at (x ∷ l) = put (set words at x) (suc at) l
 
 -- what a link's number i asks to be written: the rule from a to b with bound k. The numbers are the solver's.
 pub data Asked (c : Core) (p i a b : ℕ) (k : ℤ) : Type 0 where
@@ -29,7 +25,7 @@ pub record LinkWritten (c : Core) (p i a b : ℕ) (k : ℤ) (w w′ : List ℕ) 
   pub a-is : linkA c link ≡ a
   pub b-is : linkB c link ≡ b
   pub k-is : linkK c link ≡ k
-  pub words-are : w′ ≡ put w at (wordsOf link)
+  pub words-are : w′ ≡ sets w at (wordsOf link)
   pub next : r ≡ at + length (wordsOf link)
   pub few : length (wordsOf link) ≤ c .shape .n + 2
   pub plain : (i ≡ 1 → ⊥) → NoPath c (link ∷ [])

@@ -1,0 +1,3 @@
+-- Laws about the definitions of specs/, for proofs and for the crates above.
+pub mod Sets
+pub mod Trace
