@@ -2,7 +2,7 @@
 use mathlib.Core.Path.{_≡_}
 use mathlib.Core.Logic.{_⊎_}
 use mathlib.Core.List.{List}
-use Prim.Native.Nat.{ℕ, _+_, _*_, _<_}
+use Prim.Native.Nat.{ℕ, _+_, _*_, _≤_, _<_}
 use lib.ListN.{length, getD}
 use Rattle.sheet.specs.Core.{Shape, blocksIn, registersIn, shapeOf}
 use Rattle.paths.specs.Path.{Joins, registersOn, delayOn}
@@ -31,6 +31,10 @@ module _ (s : Shape) (w : ℕ → ℕ) (u v W D : ℕ) where
     pub registers-is : W ≡ registers + w j
     pub delay-is : D ≡ delay + s .delay v
     pub base : ((s .from j ≡ u) × (registers ≡ 0) × (delay ≡ s .delay u)) ⊎ ((s .from j ≡ u → ⊥) × Best s w u (s .from j) registers delay)
+
+  -- no wire before j completes it
+  abbrev pub NoneBefore : ℕ → Type 0
+  NoneBefore j = (i : ℕ) → Completed i → j ≤ i
 
   -- the pair's best paths are not the bare start block
   abbrev pub Apart : Type 0

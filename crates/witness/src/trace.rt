@@ -76,3 +76,23 @@ fn completes(
     }
     true
 }
+
+// The first wire that completes the entry u, v exactly: there is one, since the pair's best paths are not the bare start block.
+fn last_wire(
+    s: &[u8],
+    n: usize,
+    registers: &[u32; 4096],
+    delays: &[u32; 4096],
+    u: usize,
+    v: usize,
+) -> usize
+    requires { ⌜ Tabled (now s) n (now registers) (now delays) × (u < n) × (v < n) × (getD (now registers) (u * n + v) 0 < 4294967295) ⌝ }
+    requires { ⌜ Apart (shapeOf (now s)) (registersIn (now s)) u v (getD (now registers) (u * n + v) 0) (getD (now delays) (u * n + v) 0) ⌝ }
+    ensures { λ r. ⌜ Completed (shapeOf (now (s .entry))) (registersIn (now (s .entry))) u v (getD (now (registers .entry)) (u * n + v) 0) (getD (now (delays .entry)) (u * n + v) 0) r ⌝ }
+{
+    let mut j = 0;
+    while !completes(s, n, registers, delays, u, v, j) {
+        j += 1;
+    }
+    j
+}

@@ -15,7 +15,7 @@ use Rattle.paths.specs.Table.{LoopAt, Best, Entry, best, none}
 use Rattle.paths.specs.Laws.Path.{passes-all, joins-append, joins-end, joins-start-lt, joins-end-lt, between-passes, registers-append}
 use Rattle.paths.specs.Laws.Entry.{entry-unique, fewest-short, backward}
 use Rattle.paths.specs.Laws.Parts.{row-before, square-small}
-use Rattle.witness.specs.Trace.{Tabled, Based, Completed, Apart, Traced, Suffix}
+use Rattle.witness.specs.Trace.{Tabled, Based, Completed, NoneBefore, Apart, Traced, Suffix}
 
 -- an entry of a table of n blocks is inside 4,096
 pub entry-in : (n u v : ℕ) → n ≤ 64 → u < n → v < n → u * n + v < 4096
@@ -91,10 +91,24 @@ module _ (s : Shape) (w : ℕ → ℕ) where
                   short = path-short (h .whole) (j ∷ ws) k r;
                 }
 
+  -- ---- a search for the first wire that completes
+  pub search-start : (u v W D : ℕ) → NoneBefore s w u v W D 0
+  search-start u v W D i c = omega arith
+
+  module _ (u v W D j : ℕ) (h : NoneBefore s w u v W D j) where
+    pub search-on : (Completed s w u v W D j → ⊥) → NoneBefore s w u v W D (j + 1)
+    search-on bad i c = elim (ℕ-discrete j i) [ yes e ↦ absurd (bad (rw e c)) | no e ↦ omega (arith, h i c) ]
+
+    pub search-short : (free : (b : ℕ) → LoopAt s w b → ⊥) → Best s w u v W D → Apart s w u v W D → j < s .m
+    search-short free b far = let q = some-wire free u v W D b far in omega (arith, h (q .0) (q .1), q .1 .wire-lt)
+
 -- ---- on a sheet, by the numbers that code holds
 module _ (s : List ℕ) (n : ℕ) (registers delays : List ℕ) (t : Tabled s n registers delays) where
   pub entry-of : (u v : ℕ) → u < n → v < n → Entry (shapeOf s) (registersIn s) u v (getD registers (u * n + v) 0) (getD delays (u * n + v) 0)
   entry-of u v k l = rw (t .n-is) (t .table u v (omega (arith, t .n-is)) (omega (arith, t .n-is)))
+
+  pub best-of : (u v : ℕ) → u < n → v < n → getD registers (u * n + v) 0 < 4294967295 → Best (shapeOf s) (registersIn s) u v (getD registers (u * n + v) 0) (getD delays (u * n + v) 0)
+  best-of u v k l h = entry-best (shapeOf s) (registersIn s) u v _ _ (entry-of u v k l) h
 
   module _ (u v W D j : ℕ) (f t′ w : ℕ) (x : WireIs s j f t′ w) where
     pub other-end : (t′ ≡ v → ⊥) → Completed (shapeOf s) (registersIn s) u v W D j → ⊥
