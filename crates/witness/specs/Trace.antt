@@ -3,7 +3,7 @@ use mathlib.Core.Path.{_≡_}
 use mathlib.Core.Logic.{_⊎_}
 use mathlib.Core.List.{List}
 use Prim.Native.Nat.{ℕ, _+_, _*_, _≤_, _<_}
-use lib.ListN.{length, getD}
+use lib.ListN.{length, getD, drop}
 use Rattle.sheet.specs.Core.{Shape, blocksIn, registersIn, shapeOf}
 use Rattle.paths.specs.Path.{Joins, registersOn, delayOn}
 use Rattle.paths.specs.Table.{Best, Table}
@@ -36,9 +36,12 @@ module _ (s : Shape) (w : ℕ → ℕ) (u v W D : ℕ) where
   abbrev pub NoneBefore : ℕ → Type 0
   NoneBefore j = (i : ℕ) → Completed i → j ≤ i
 
-  -- the pair's best paths are not the bare start block
+  -- the pair's best path is the bare start block, or is not
+  abbrev pub Bare : Type 0
+  Bare = (v ≡ u) × (W ≡ 0) × (D ≡ s .delay u)
+
   abbrev pub Apart : Type 0
-  Apart = (v ≡ u) × (W ≡ 0) × (D ≡ s .delay u) → ⊥
+  Apart = Bare → ⊥
 
   -- the wires ws are a path from u to v with these numbers, of fewer than n wires
   pub record Traced (ws : List ℕ) : Type 0 where
@@ -54,3 +57,12 @@ module _ (s : Shape) (w : ℕ → ℕ) (u v W D : ℕ) where
     pub joins : Joins s b ws v
     pub registers-is : Wb + registersOn w ws ≡ W
     pub delay-is : Db + delayOn s b ws ≡ D + s .delay b
+
+-- the wires from place `at` on are found, and the search goes on at block b
+pub record Tracing (s : List ℕ) (n : ℕ) (registers delays : List ℕ) (u v b at : ℕ) (wires : List ℕ) : Type 0 where
+  pub inside : b < n
+  pub place : at ≤ 64
+  pub long : length wires ≡ 64
+  pub apart : Apart (shapeOf s) (registersIn s) u b (getD registers (u * n + b) 0) (getD delays (u * n + b) 0)
+  pub suffix :
+      Suffix (shapeOf s) (registersIn s) u v (getD registers (u * n + v) 0) (getD delays (u * n + v) 0) b (getD registers (u * n + b) 0) (getD delays (u * n + b) 0) (drop at wires)

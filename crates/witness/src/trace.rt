@@ -5,7 +5,7 @@ ghost use lib.ListN.{length, getD, drop};
 ghost use Rattle.sheet.specs.Core.{blocksIn, wiresIn, delayIn, registersIn, shapeOf};
 ghost use Rattle.sheet.specs.Sheet.{FormedSheet};
 ghost use Rattle.sheet.specs.Rules.{Told};
-ghost use Rattle.witness.specs.Trace.{Tabled, Based, Completed, Apart, Traced};
+ghost use Rattle.witness.specs.Trace.{Tabled, Based, Completed, Bare, Apart, Traced};
 use crate::read::delay_of;
 use crate::read::entry_at;
 use crate::read::from_of;
@@ -95,4 +95,57 @@ fn last_wire(
         j += 1;
     }
     j
+}
+
+// Whether the best path from u to v is the bare start block.
+fn bare(
+    s: &[u8],
+    n: usize,
+    registers: &[u32; 4096],
+    delays: &[u32; 4096],
+    u: usize,
+    v: usize,
+) -> bool
+    requires { ⌜ Tabled (now s) n (now registers) (now delays) × (u < n) × (v < n) ⌝ }
+    ensures { λ r. ⌜ Told (Bare (shapeOf (now (s .entry))) (registersIn (now (s .entry))) u v (getD (now (registers .entry)) (u * n + v) 0) (getD (now (delays .entry)) (u * n + v) 0)) r ⌝ }
+{
+    if v != u {
+        return false;
+    }
+    if entry_at(registers, n, u, v) != 0 {
+        return false;
+    }
+    if entry_at(delays, n, u, v) != delay_of(s, u) {
+        return false;
+    }
+    true
+}
+
+// The wires of a best path from u to v, in path order, from the place given back to the list's end.
+pub fn trace(
+    s: &[u8],
+    n: usize,
+    registers: &[u32; 4096],
+    delays: &[u32; 4096],
+    u: usize,
+    v: usize,
+    wires: &mut [u16; 64],
+) -> usize
+    requires { ⌜ Tabled (now s) n (now registers) (now delays) × (u < n) × (v < n) × (getD (now registers) (u * n + v) 0 < 4294967295) × (length (now wires) ≡ 64) ⌝ }
+    ensures { λ r. ⌜ (r ≤ 64) × Traced (shapeOf (now (s .entry))) (registersIn (now (s .entry))) u v (getD (now (registers .entry)) (u * n + v) 0) (getD (now (delays .entry)) (u * n + v) 0) (drop r (now (wires .exit))) ⌝ }
+{
+    if bare(s, n, registers, delays, u, v) {
+        return 64;
+    }
+    let mut b = v;
+    let mut at = 64usize;
+    loop {
+        let j = last_wire(s, n, registers, delays, u, b);
+        at -= 1;
+        wires[at] = j as u16;
+        b = from_of(s, n, j);
+        if b == u {
+            return at;
+        }
+    }
 }

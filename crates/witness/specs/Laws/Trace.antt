@@ -6,7 +6,7 @@ use mathlib.Core.List.{List, [], _∷_, _++_}
 use Prim.Native.Nat.{ℕ, suc, _+_, _*_, _≤_, _<_}
 use native.Mathlib.Decide.{ℕ-discrete}
 use native.Mathlib.Omega.{arith}
-use lib.ListN.{length, getD, set, drop, length-append, length-drop}
+use lib.ListN.{length, getD, set, drop, length-append, length-drop, length-set, drop-of-length-le}
 use lib.Seq.{drop-cons, getD-set-same, drop-set-lt}
 use Rattle.sheet.specs.Core.{Shape, blocksIn, wiresIn, delayIn, fromIn, toIn, registersIn, shapeOf}
 use Rattle.sheet.specs.Reads.{WireIs}
@@ -15,7 +15,7 @@ use Rattle.paths.specs.Table.{LoopAt, Best, Entry, best, none}
 use Rattle.paths.specs.Laws.Path.{passes-all, joins-append, joins-end, joins-start-lt, joins-end-lt, between-passes, registers-append}
 use Rattle.paths.specs.Laws.Entry.{entry-unique, fewest-short, backward}
 use Rattle.paths.specs.Laws.Parts.{row-before, square-small}
-use Rattle.witness.specs.Trace.{Tabled, Based, Completed, NoneBefore, Apart, Traced, Suffix}
+use Rattle.witness.specs.Trace.{Tabled, Based, Completed, NoneBefore, Bare, Apart, Traced, Suffix, Tracing}
 
 -- an entry of a table of n blocks is inside 4,096
 pub entry-in : (n u v : ℕ) → n ≤ 64 → u < n → v < n → u * n + v < 4096
@@ -109,6 +109,65 @@ module _ (s : List ℕ) (n : ℕ) (registers delays : List ℕ) (t : Tabled s n 
 
   pub best-of : (u v : ℕ) → u < n → v < n → getD registers (u * n + v) 0 < 4294967295 → Best (shapeOf s) (registersIn s) u v (getD registers (u * n + v) 0) (getD delays (u * n + v) 0)
   best-of u v k l h = entry-best (shapeOf s) (registersIn s) u v _ _ (entry-of u v k l) h
+
+  -- ---- the wires found, in path order
+  module _ (u v : ℕ) (k : u < n) (l : v < n) where
+    pub bare-traced : (wires : List ℕ) → length wires ≡ 64 → Bare (shapeOf s) (registersIn s) u v (getD registers (u * n + v) 0) (getD delays (u * n + v) 0)
+        → Traced (shapeOf s) (registersIn s) u v (getD registers (u * n + v) 0) (getD delays (u * n + v) 0) (drop 64 wires)
+    bare-traced wires e h =
+        rw (drop-of-length-le wires {i = 64} (omega arith))
+        (record { joins = (omega (arith, t .n-is), sym (h .0)); registers-is = sym (h .1); delay-is = sym (h .2); short = omega (arith, t .n-is) })
+
+    pub tracing-start : (wires : List ℕ) → length wires ≡ 64 → getD registers (u * n + v) 0 < 4294967295 → Apart (shapeOf s) (registersIn s) u v (getD registers (u * n + v) 0) (getD delays (u * n + v) 0)
+        → Tracing s n registers delays u v v 64 wires
+    tracing-start wires e small far =
+        let b = best-of u v k l small in
+        record {
+          inside = l;
+          place = omega arith;
+          long = e;
+          apart = far;
+          suffix =
+              rw (drop-of-length-le wires {i = 64} (omega arith))
+              (record { whole = b; front = b; joins = (omega (arith, t .n-is), refl); registers-is = omega arith; delay-is = omega arith });
+        }
+
+    module _ (b at : ℕ) (wires : List ℕ) (h : Tracing s n registers delays u v b at wires) where
+      pub tracing-room : 0 < at
+      tracing-room =
+          omega (
+            arith,
+            h .place,
+            h .long,
+            t .sound .formed .framed .few-blocks,
+            length-drop at wires,
+            suffix-short (shapeOf s) (registersIn s) (t .sound .free) u v _ _ b _ _ (drop at wires) (h .suffix),
+          )
+
+      module _ (j : ℕ) (c : Completed (shapeOf s) (registersIn s) u b (getD registers (u * n + b) 0) (getD delays (u * n + b) 0) j) (at′ : ℕ) (e : at′ + 1 ≡ at) where
+        stored : drop at′ (set wires at′ j) ≡ j ∷ drop at wires
+        stored =
+            let i : at′ < length wires = omega (arith, h .place, h .long) in
+            let q : suc at′ ≡ at = omega arith in
+            drop-cons (set wires at′ j) at′ 0 (rw length-set i)
+            ∙ ap (λ (x : ℕ). x ∷ drop (suc at′) (set wires at′ j)) (getD-set-same wires at′ j 0 i)
+            ∙ ap (λ (xs : List ℕ). j ∷ xs) (drop-set-lt (suc at′) wires at′ j (omega arith))
+            ∙ ap (λ (x : ℕ). j ∷ drop x wires) q
+
+        module _ (b′ : ℕ) (q : b′ ≡ fromIn s j) where
+          pub tracing-next : b′ < n → (b′ ≡ u → ⊥) → Tracing s n registers delays u v b′ at′ (set wires at′ j)
+          tracing-next i f = record {
+            inside = i;
+            place = omega (arith, h .place);
+            long = length-set wires at′ j ∙ h .long;
+            apart = λ z. f (z .0);
+            suffix =
+                rw (stored, q)
+                (suffix-next (shapeOf s) (registersIn s) (t .sound .free) u v _ _ b _ _ (drop at wires) (h .suffix) j c _ _ (λ z. f (q ∙ z)) (entry-of u (fromIn s j) k (rw q at i)));
+          }
+
+          pub tracing-end : b′ ≡ u → Traced (shapeOf s) (registersIn s) u v (getD registers (u * n + v) 0) (getD delays (u * n + v) 0) (drop at′ (set wires at′ j))
+          tracing-end z = rw stored (suffix-ends (shapeOf s) (registersIn s) (t .sound .free) u v _ _ b _ _ (drop at wires) (h .suffix) j c (sym q ∙ z))
 
   module _ (u v W D j : ℕ) (f t′ w : ℕ) (x : WireIs s j f t′ w) where
     pub other-end : (t′ ≡ v → ⊥) → Completed (shapeOf s) (registersIn s) u v W D j → ⊥
