@@ -1,3 +1,4 @@
 -- Laws about the definitions of specs/, for proofs and for the crates above.
 pub mod Sets
 pub mod Trace
+pub mod Link

@@ -132,7 +132,7 @@ pub fn trace(
     wires: &mut [u16; 64],
 ) -> usize
     requires { ⌜ Tabled (now s) n (now registers) (now delays) × (u < n) × (v < n) × (getD (now registers) (u * n + v) 0 < 4294967295) × (length (now wires) ≡ 64) ⌝ }
-    ensures { λ r. ⌜ (r ≤ 64) × Traced (shapeOf (now (s .entry))) (registersIn (now (s .entry))) u v (getD (now (registers .entry)) (u * n + v) 0) (getD (now (delays .entry)) (u * n + v) 0) (drop r (now (wires .exit))) ⌝ }
+    ensures { λ r. ⌜ (r ≤ 64) × (length (now (wires .exit)) ≡ 64) × Traced (shapeOf (now (s .entry))) (registersIn (now (s .entry))) u v (getD (now (registers .entry)) (u * n + v) 0) (getD (now (delays .entry)) (u * n + v) 0) (drop r (now (wires .exit))) ⌝ }
 {
     if bare(s, n, registers, delays, u, v) {
         return 64;

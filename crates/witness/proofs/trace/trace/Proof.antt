@@ -3,6 +3,8 @@ use borrow.Author.Needs.{needs}
 use native.Mathlib.Omega.{arith}
 use native.Mathlib.Omega.{arith}
 use Prim.Native.Nat.{_-_}
+use mathlib.Core.Path.{_∙_}
+use lib.ListN.{length-set}
 use borrow.Author.Tests.{not-true, not-false}
 use Rattle.sheet.specs.Laws.Rules.{told-true, told-false}
 use Rattle.witness.specs.Trace.{Tracing}
@@ -20,7 +22,7 @@ bare-requires : tie.Need-bare-requires Inv-loop μ-loop
 bare-requires c κs = (c .before .pre .0, c .before .pre .1, c .before .pre .2)
 
 returns : tie.Need-returns Inv-loop μ-loop
-returns c = (omega arith, bare-traced (c .before .before .before .args .s .now) _ _ _ (c .before .before .before .pre .0) _ _ (c .before .before .before .pre .1) (c .before .before .before .pre .2) (c .before .before .before .args .wires .now) (c .before .before .before .pre .4) (told-true _ (c .before .bare .result) (c .before .bare .ensures) (c .if1 .taken)))
+returns c = (omega arith, c .before .before .before .pre .4, bare-traced (c .before .before .before .args .s .now) _ _ _ (c .before .before .before .pre .0) _ _ (c .before .before .before .pre .1) (c .before .before .before .pre .2) (c .before .before .before .args .wires .now) (c .before .before .before .pre .4) (told-true _ (c .before .bare .result) (c .before .bare .ensures) (c .if1 .taken)))
 
 loop-holds : tie.Need-loop-holds Inv-loop μ-loop
 loop-holds c = tracing-start (c .before .before .before .args .s .now) _ _ _ (c .before .before .before .pre .0) _ _ (c .before .before .before .pre .1) (c .before .before .before .pre .2) (c .before .before .before .args .wires .now) (c .before .before .before .pre .4) (c .before .before .before .pre .3) (told-false _ (c .before .bare .result) (c .before .bare .ensures) (c .if1 .left))
@@ -44,7 +46,7 @@ from-of-requires : tie.Need-from-of-requires Inv-loop μ-loop
 from-of-requires c κs = (c .before .before .before .before .before .pre .0 .sound .formed, c .before .before .before .before .before .pre .0 .n-is, c .last-wire .ensures .wire-lt)
 
 returns-2 : tie.Need-returns-2 Inv-loop μ-loop
-returns-2 c = (omega (arith, c .before .before .before .loop .inv .place), tracing-end (c .before .before .before .before .before .before .before .args .s .now) _ _ _ (c .before .before .before .before .before .before .before .pre .0) _ _ (c .before .before .before .before .before .before .before .pre .1) (c .before .before .before .before .before .before .before .pre .2) _ _ (c .before .before .before .loop .wires) (c .before .before .before .loop .inv) _ (c .before .before .last-wire .ensures) (c .before .before .before .loop .at - 1) (omega (arith, tracing-room (c .before .before .before .before .before .before .before .args .s .now) _ _ _ (c .before .before .before .before .before .before .before .pre .0) _ _ (c .before .before .before .before .before .before .before .pre .1) (c .before .before .before .before .before .before .before .pre .2) _ _ (c .before .before .before .loop .wires) (c .before .before .before .loop .inv))) _ (c .before .from-of .ensures .0) (c .if2 .taken))
+returns-2 c = (omega (arith, c .before .before .before .loop .inv .place), length-set (c .before .before .before .loop .wires) _ _ ∙ c .before .before .before .loop .inv .long, tracing-end (c .before .before .before .before .before .before .before .args .s .now) _ _ _ (c .before .before .before .before .before .before .before .pre .0) _ _ (c .before .before .before .before .before .before .before .pre .1) (c .before .before .before .before .before .before .before .pre .2) _ _ (c .before .before .before .loop .wires) (c .before .before .before .loop .inv) _ (c .before .before .last-wire .ensures) (c .before .before .before .loop .at - 1) (omega (arith, tracing-room (c .before .before .before .before .before .before .before .args .s .now) _ _ _ (c .before .before .before .before .before .before .before .pre .0) _ _ (c .before .before .before .before .before .before .before .pre .1) (c .before .before .before .before .before .before .before .pre .2) _ _ (c .before .before .before .loop .wires) (c .before .before .before .loop .inv))) _ (c .before .from-of .ensures .0) (c .if2 .taken))
 
 loop-less : tie.Need-loop-less Inv-loop μ-loop
 loop-less c = omega (arith, tracing-room (c .before .before .before .before .before .before .before .args .s .now) _ _ _ (c .before .before .before .before .before .before .before .pre .0) _ _ (c .before .before .before .before .before .before .before .pre .1) (c .before .before .before .before .before .before .before .pre .2) _ _ (c .before .before .before .loop .wires) (c .before .before .before .loop .inv))
