@@ -2,3 +2,5 @@
 pub mod Sets
 pub mod Trace
 pub mod Link
+pub mod Asked
+pub mod Linked
