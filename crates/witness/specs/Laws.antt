@@ -4,3 +4,4 @@ pub mod Trace
 pub mod Link
 pub mod Asked
 pub mod Linked
+pub mod Walked

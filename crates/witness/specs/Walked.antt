@@ -59,3 +59,7 @@ pub record Walked (s par : List ℕ) (g : Given) (e : List ℕ) (a b start : ℕ
   pub links : List Link
   pub linked : Linked (coreOf s) (g .period) start v (getD e v 0 + 1) (getD e start 0) links w w′ at
   pub apart : (x : ℕ) → (x ≡ start → ⊥) → (x ≡ a → ⊥) → ((j : ℕ) → j < k → x ≡ iter par j b → ⊥) → NotIn x (map (linkA (coreOf s)) links)
+
+-- a loop that does not end at a begins with the lower limit of a
+abbrev pub Begun : ℕ → ℕ → List ℕ → List ℕ → ℕ → Type 0
+Begun start a w w′ at = (start ≡ a → (w′ ≡ w) × (at ≡ 0)) × ((start ≡ a → ⊥) → (w′ ≡ sets w 0 (4 ∷ a ∷ [])) × (at ≡ 2))
