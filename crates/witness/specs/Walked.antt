@@ -63,3 +63,15 @@ pub record Walked (s par : List ℕ) (g : Given) (e : List ℕ) (a b start : ℕ
 -- a loop that does not end at a begins with the lower limit of a
 abbrev pub Begun : ℕ → ℕ → List ℕ → List ℕ → ℕ → Type 0
 Begun start a w w′ at = (start ≡ a → (w′ ≡ w) × (at ≡ 0)) × ((start ≡ a → ⊥) → (w′ ≡ sets w 0 (4 ∷ a ∷ [])) × (at ≡ 2))
+
+-- a loop at the period p is being written from where the solver stopped, and the walk is at v
+pub record Underway (s : List ℕ) (n : ℕ) (registers delays par up : List ℕ) (start p : ℕ) (w w′ : List ℕ) (at v : ℕ) : Type 0 where
+  pub i : ℕ
+  pub a : ℕ
+  pub b : ℕ
+  pub g : Given
+  pub e : List ℕ
+  pub halted : Halted s n registers delays par up i a b g e
+  pub period-is : g .period ≡ p
+  pub ends : Ends par a b start
+  pub walked : Walked s par g e a b start ends w w′ at v

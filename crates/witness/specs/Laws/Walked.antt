@@ -24,7 +24,7 @@ use Rattle.solver.specs.Walk.{Depth, Rooted, iter, Hit}
 use Rattle.solver.specs.Laws.Walk.{iter-in, short, distinct, Walking}
 use Rattle.witness.specs.Trace.{Tabled}
 use Rattle.witness.specs.Written.{Asked, for-upper, for-path, for-wire, for-ceiling, LinkWritten, LoopWritten}
-use Rattle.witness.specs.Walked.{Halted, Ends, far, NoneSlow, Linked, Walked, Begun}
+use Rattle.witness.specs.Walked.{Halted, Ends, far, NoneSlow, Linked, Walked, Begun, Underway}
 use Rattle.witness.specs.Laws.Sets.{sets-front, sets-kept}
 use Rattle.witness.specs.Laws.Link.{asked-a, asked-b}
 use Rattle.witness.specs.Laws.Asked.{Bound, rule-asked, link-asked}
@@ -38,14 +38,14 @@ far-depth par zero (suc d) v p h = absurd (omega arith)
 far-depth par (suc most) (suc d) zero p h = absurd (p .0 refl)
 far-depth par (suc most) (suc d) (suc v) p h = ap suc (far-depth par most d (getD par (suc v) 0) (p .1) (omega arith))
 
-pub far-less : (n : ℕ) (par : List ℕ) → Rooted n par → (v : ℕ) → v < n → (v ≡ 0 → ⊥) → far n par (getD par v 0) < far n par v
-far-less n par R v h nz = let q = R .ends v h in go (q .0) (q .1)
+pub far-less : (n most : ℕ) (par : List ℕ) → Rooted n par → n ≤ most → (v : ℕ) → v < n → (v ≡ 0 → ⊥) → far most par (getD par v 0) < far most par v
+far-less n most par R m v h nz = let q = R .ends v h in go (q .0) (q .1)
   where
-    go : (d : ℕ) → Depth par d v → far n par (getD par v 0) < far n par v
+    go : (d : ℕ) → Depth par d v → far most par (getD par v 0) < far most par v
     go zero p = absurd (nz p)
     go (suc d) p =
         let l = short n par R (suc d) v h p in
-        omega (arith, far-depth par n (suc d) v p (omega arith), far-depth par n d (getD par v 0) (p .1) (omega arith))
+        omega (arith, far-depth par most (suc d) v p (omega arith), far-depth par most d (getD par v 0) (p .1) (omega arith))
 
 -- ---- where the walk ends
 pub ends-at : (n : ℕ) (par : List ℕ) (a b k : ℕ) → Walking n par a b a k → Ends par a b a
@@ -64,6 +64,9 @@ asked-slow c p i a b z (for-ceiling j l e x y q) none h = omega arith
 module _ (s : List ℕ) (n : ℕ) (registers delays par ups : List ℕ) (i a b : ℕ) (g : Given) (e : List ℕ) (h : Halted s n registers delays par ups i a b g e) where
   blocks : n ≡ blocksIn s
   blocks = h .n-is ∙ h .stands .n-is
+
+  pub few-blocks : n ≤ 64
+  few-blocks = omega (arith, blocks, h .stands .sound .formed .framed .few-blocks)
 
   pub halted-table : Tabled s n registers delays
   halted-table = record {
@@ -206,8 +209,8 @@ module _ (s : List ℕ) (n : ℕ) (registers delays par ups : List ℕ) (i a b :
         walked-room =
             rw blocks (linked-room (coreOf s) (g .period) start v _ _ (W .links) w w′ at (W .linked) formed (omega (arith, blocks, walked-in)) fresh-here)
 
-        pub walked-less : far n par (getD par v 0) < far n par v
-        walked-less = far-less n par rooted v walked-in (λ z. ends .past (W .k) on .1 (W .here ∙ z))
+        pub walked-less : far 64 par (getD par v 0) < far 64 par v
+        walked-less = far-less n 64 par rooted few-blocks v walked-in (λ z. ends .past (W .k) on .1 (W .here ∙ z))
 
         pub walked-next : (w″ : List ℕ) (r v′ : ℕ) → LinkWritten (coreOf s) (g .period) (getD ups v 0) v (getD par v 0) (held-bound v walked-in .z) w′ w″ at r
             → v′ ≡ getD par v 0 → Walked s par g e a b start ends w w″ r v′
@@ -234,9 +237,8 @@ module _ (s : List ℕ) (n : ℕ) (registers delays par ups : List ℕ) (i a b :
 
         small : n * (n + 2) ≤ 4224
         small =
-            let l : n ≤ 64 = omega (arith, blocks, h .stands .sound .formed .framed .few-blocks) in
-            let m : n + 2 ≤ 66 = omega arith in
-            mul-le-mul l m
+            let m : n + 2 ≤ 66 = omega (arith, few-blocks) in
+            mul-le-mul few-blocks m
 
         closes : (ls : List Link) → Linked (coreOf s) (g .period) start v (getD e v 0 + 1) (getD e start 0) ls w w′ at → LoopWritten (coreOf s) (g .period) w w′ at
         closes [] L = absurd (omega (arith, L .sum, ap (λ (x : ℕ). getD e x 0) q))
@@ -262,3 +264,53 @@ module _ (s : List ℕ) (n : ℕ) (registers delays par ups : List ℕ) (i a b :
 
         pub walked-ends : LoopWritten (coreOf s) (g .period) w w′ at
         walked-ends = closes (W .links) (W .linked)
+
+-- ---- a turn of the walk, for whatever the loop is written for
+module _ (s : List ℕ) (n : ℕ) (registers delays par ups : List ℕ) (start p : ℕ) (w w′ : List ℕ) (at v : ℕ) (U : Underway s n registers delays par ups start p w w′ at v) where
+  pub underway-table : Tabled s n registers delays
+  underway-table = halted-table s n registers delays par ups (U .i) (U .a) (U .b) (U .g) (U .e) (U .halted)
+
+  pub underway-in : v < 64
+  underway-in =
+      omega (
+        arith,
+        walked-in s n registers delays par ups (U .i) (U .a) (U .b) (U .g) (U .e) (U .halted) start (U .ends) w w′ at v (U .walked),
+        few-blocks s n registers delays par ups (U .i) (U .a) (U .b) (U .g) (U .e) (U .halted),
+      )
+
+  here : v < n
+  here = walked-in s n registers delays par ups (U .i) (U .a) (U .b) (U .g) (U .e) (U .halted) start (U .ends) w w′ at v (U .walked)
+
+  pub underway-asked : (q : ℕ) × (z : ℤ) × Asked (coreOf s) q (getD ups v 0) v (getD par v 0) z
+  underway-asked =
+      let B = held-bound s n registers delays par ups (U .i) (U .a) (U .b) (U .g) (U .e) (U .halted) v here in
+      (U .g .period, B .z, B .asked)
+
+  module _ (f : v ≡ start → ⊥) where
+    pub underway-room : at + (n + 2) ≤ n * (n + 2)
+    underway-room = walked-room s n registers delays par ups (U .i) (U .a) (U .b) (U .g) (U .e) (U .halted) start (U .ends) w w′ at v (U .walked) f
+
+    pub underway-less : far 64 par (getD par v 0) < far 64 par v
+    underway-less = walked-less s n registers delays par ups (U .i) (U .a) (U .b) (U .g) (U .e) (U .halted) start (U .ends) w w′ at v (U .walked) f
+
+    pub underway-next : (w″ : List ℕ) (r i b v′ : ℕ) → i ≡ getD ups v 0 → b ≡ getD par v 0 → v′ ≡ getD par v 0
+        → ((q : ℕ) → (z : ℤ) → Asked (coreOf s) q i v b z → LinkWritten (coreOf s) q i v b z w′ w″ at r)
+        → Underway s n registers delays par ups start p w w″ r v′
+    underway-next w″ r i b v′ x y e l =
+        let B = held-bound s n registers delays par ups (U .i) (U .a) (U .b) (U .g) (U .e) (U .halted) v (walked-in s n registers delays par ups (U .i) (U .a) (U .b) (U .g) (U .e) (U .halted) start (U .ends) w w′ at v (U .walked)) in
+        let l′ : (q : ℕ) → (z : ℤ) → Asked (coreOf s) q (getD ups v 0) v (getD par v 0) z → LinkWritten (coreOf s) q (getD ups v 0) v (getD par v 0) z w′ w″ at r = rw (← x, ← y) l in
+        record {
+          i = U .i;
+          a = U .a;
+          b = U .b;
+          g = U .g;
+          e = U .e;
+          halted = U .halted;
+          period-is = U .period-is;
+          ends = U .ends;
+          walked = walked-next s n registers delays par ups (U .i) (U .a) (U .b) (U .g) (U .e) (U .halted) start (U .ends) w w′ at v (U .walked) f w″ r v′ (l′ (U .g .period) (B .z) (B .asked)) e;
+        }
+
+  pub underway-ends : v ≡ start → n * (n + 2) ≤ length w → LoopWritten (coreOf s) p w w′ at
+  underway-ends q room =
+      rw (U .period-is) at (walked-ends s n registers delays par ups (U .i) (U .a) (U .b) (U .g) (U .e) (U .halted) start (U .ends) w w′ at v (U .walked) q room)
