@@ -2,3 +2,4 @@
 mod link; // the words of one link
 mod read; // numbers of the sheet and of the path table
 mod trace; // a path link's wires
+mod walk; // the links from where the solver is stuck

@@ -21,10 +21,10 @@ use Rattle.loops.specs.Link.{Link, lower, allWords, linkA, sumK, ValidLoop}
 use Rattle.loops.specs.Laws.Chain.{parts-negative}
 use Rattle.solver.specs.System.{Given}
 use Rattle.solver.specs.Walk.{Depth, Rooted, iter, Hit}
-use Rattle.solver.specs.Laws.Walk.{iter-in, short, distinct, Walking}
+use Rattle.solver.specs.Laws.Walk.{iter-in, short, distinct, walk-start, walk-step}
 use Rattle.witness.specs.Trace.{Tabled}
 use Rattle.witness.specs.Written.{Asked, for-upper, for-path, for-wire, for-ceiling, LinkWritten, LoopWritten}
-use Rattle.witness.specs.Walked.{Halted, Ends, far, NoneSlow, Linked, Walked, Begun, Underway}
+use Rattle.witness.specs.Walked.{Halted, Ends, OnWalk, far, NoneSlow, Linked, Walked, Begun, Underway}
 use Rattle.witness.specs.Laws.Sets.{sets-front, sets-kept}
 use Rattle.witness.specs.Laws.Link.{asked-a, asked-b}
 use Rattle.witness.specs.Laws.Asked.{Bound, rule-asked, link-asked}
@@ -48,11 +48,25 @@ far-less n most par R m v h nz = let q = R .ends v h in go (q .0) (q .1)
         omega (arith, far-depth par most (suc d) v p (omega arith), far-depth par most d (getD par v 0) (p .1) (omega arith))
 
 -- ---- where the walk ends
-pub ends-at : (n : ℕ) (par : List ℕ) (a b k : ℕ) → Walking n par a b a k → Ends par a b a
-ends-at n par a b k W = record { steps = k; there = W .here; past = W .past; host = λ f. absurd (f refl) }
+pub on-start : (par : List ℕ) (a b n : ℕ) → Rooted n par → n ≤ 64 → b < n → OnWalk par a b b
+on-start par a b n R m h = record { n = n; k = 0; few = m; rooted = R; walking = walk-start n par a b R h }
 
-pub ends-host : (n : ℕ) (par : List ℕ) (a b v k : ℕ) → Walking n par a b v k → v ≡ 0 → Ends par a b 0
-ends-host n par a b v k W z = record { steps = k; there = W .here ∙ z; past = W .past; host = λ _. refl }
+module _ (par : List ℕ) (a b v : ℕ) (W : OnWalk par a b v) where
+  pub on-in : v < 64
+  on-in = omega (arith, W .few, W .walking .inside)
+
+  pub on-host : v ≡ 0 → Ends par a b 0
+  on-host z = record { steps = W .k; there = W .walking .here ∙ z; past = W .walking .past; host = λ _. refl }
+
+  pub on-met : v ≡ a → Ends par a b a
+  on-met q = record { steps = W .k; there = W .walking .here ∙ q; past = W .walking .past; host = λ f. absurd (f refl) }
+
+  module _ (nz : v ≡ 0 → ⊥) (v′ : ℕ) (e : v′ ≡ getD par v 0) where
+    pub on-less : far 64 par v′ < far 64 par v
+    on-less = rw e (far-less (W .n) 64 par (W .rooted) (W .few) v (W .walking .inside) nz)
+
+    pub on-next : (v ≡ a → ⊥) → OnWalk par a b v′
+    on-next na = rw e (record { n = W .n; k = W .k + 1; few = W .few; rooted = W .rooted; walking = walk-step (W .rooted) (W .walking) na nz })
 
 -- ---- a link that is asked for is of kind 2 only where a path is too slow
 asked-slow : (c : Core) (p i a b : ℕ) (z : ℤ) → Asked c p i a b z → NoneSlow c p → i ≡ 1 → ⊥
@@ -281,17 +295,17 @@ module _ (s : List ℕ) (n : ℕ) (registers delays par ups : List ℕ) (start p
   here : v < n
   here = walked-in s n registers delays par ups (U .i) (U .a) (U .b) (U .g) (U .e) (U .halted) start (U .ends) w w′ at v (U .walked)
 
-  pub underway-asked : (q : ℕ) × (z : ℤ) × Asked (coreOf s) q (getD ups v 0) v (getD par v 0) z
-  underway-asked =
+  pub underway-asked : (i b : ℕ) → i ≡ getD ups v 0 → b ≡ getD par v 0 → (q : ℕ) × (z : ℤ) × Asked (coreOf s) q i v b z
+  underway-asked i b x y =
       let B = held-bound s n registers delays par ups (U .i) (U .a) (U .b) (U .g) (U .e) (U .halted) v here in
-      (U .g .period, B .z, B .asked)
+      (U .g .period, B .z, rw (x, y) (B .asked))
 
   module _ (f : v ≡ start → ⊥) where
     pub underway-room : at + (n + 2) ≤ n * (n + 2)
     underway-room = walked-room s n registers delays par ups (U .i) (U .a) (U .b) (U .g) (U .e) (U .halted) start (U .ends) w w′ at v (U .walked) f
 
-    pub underway-less : far 64 par (getD par v 0) < far 64 par v
-    underway-less = walked-less s n registers delays par ups (U .i) (U .a) (U .b) (U .g) (U .e) (U .halted) start (U .ends) w w′ at v (U .walked) f
+    pub underway-less : (v′ : ℕ) → v′ ≡ getD par v 0 → far 64 par v′ < far 64 par v
+    underway-less v′ q = rw q (walked-less s n registers delays par ups (U .i) (U .a) (U .b) (U .g) (U .e) (U .halted) start (U .ends) w w′ at v (U .walked) f)
 
     pub underway-next : (w″ : List ℕ) (r i b v′ : ℕ) → i ≡ getD ups v 0 → b ≡ getD par v 0 → v′ ≡ getD par v 0
         → ((q : ℕ) → (z : ℤ) → Asked (coreOf s) q i v b z → LinkWritten (coreOf s) q i v b z w′ w″ at r)
