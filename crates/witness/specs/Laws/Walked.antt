@@ -6,7 +6,7 @@ use mathlib.Core.List.{List, [], _∷_, _++_, map}
 use Prim.Native.Nat.{ℕ, zero, suc, _+_, _*_, _≤_, _<_}
 use native.Mathlib.Omega.{arith}
 use native.Mathlib.Decide.{ℕ-discrete, decLt}
-use native.Mathlib.Nat.{mul-le-mul}
+use native.Mathlib.Nat.{mul-le-mul, mul-le-mul-right}
 use lib.IntN.{ℤ, negℤ}
 use lib.ListN.{length, getD, take, length-take}
 use lib.Seq.{sets, length-take-le}
@@ -278,6 +278,44 @@ module _ (s : List ℕ) (n : ℕ) (registers delays par ups : List ℕ) (i a b :
 
         pub walked-ends : LoopWritten (coreOf s) (g .period) w w′ at
         walked-ends = closes (W .links) (W .linked)
+
+-- ---- before the walk, for whatever the solver stopped at
+module _ (s : List ℕ) (n : ℕ) (registers delays par ups : List ℕ) (i a b : ℕ) (g : Given) (e : List ℕ) (h : Halted s n registers delays par ups i a b g e) where
+  -- the walk may begin
+  pub halted-walk : (m : ℕ) × Rooted m par × (m ≤ 64) × (b < m)
+  halted-walk = (n, rooted s n registers delays par ups i a b g e h, few-blocks s n registers delays par ups i a b g e h, b-in s n registers delays par ups i a b g e h)
+
+  pub halted-room : 2 ≤ n * (n + 2)
+  halted-room = let l : 1 ≤ n = omega (arith, a-in s n registers delays par ups i a b g e h) in omega (arith, mul-le-mul-right (n + 2) l)
+
+  pub halted-a : a < 64
+  halted-a = omega (arith, a-in s n registers delays par ups i a b g e h, few-blocks s n registers delays par ups i a b g e h)
+
+  pub halted-asked : (q : ℕ) × (z : ℤ) × Asked (coreOf s) q i a b z
+  halted-asked = let B = rule-bound s n registers delays par ups i a b g e h in (g .period, B .z, B .asked)
+
+  module _ (start : ℕ) (ends : Ends par a b start) (w w′ : List ℕ) (at : ℕ) (o : Begun start a w w′ at) where
+    pub begun-room : at + (n + 2) ≤ n * (n + 2)
+    begun-room =
+        begins-room s n registers delays par ups i a b g e h start ends w w′ at (begins s n registers delays par ups i a b g e h start ends w w′ at o)
+
+    pub underway-start : (w″ : List ℕ) (r : ℕ) → ((q : ℕ) → (z : ℤ) → Asked (coreOf s) q i a b z → LinkWritten (coreOf s) q i a b z w′ w″ at r)
+        → Underway s n registers delays par ups start (g .period) w w″ r b
+    underway-start w″ r l =
+        let B = rule-bound s n registers delays par ups i a b g e h in
+        record {
+          i = i;
+          a = a;
+          b = b;
+          g = g;
+          e = e;
+          halted = h;
+          period-is = refl;
+          ends = ends;
+          walked =
+              walked-start s n registers delays par ups i a b g e h start ends w w′ at (begins s n registers delays par ups i a b g e h start ends w w′ at o) w″ r
+              (l (g .period) (B .z) (B .asked));
+        }
 
 -- ---- a turn of the walk, for whatever the loop is written for
 module _ (s : List ℕ) (n : ℕ) (registers delays par ups : List ℕ) (start p : ℕ) (w w′ : List ℕ) (at v : ℕ) (U : Underway s n registers delays par ups start p w w′ at v) where
