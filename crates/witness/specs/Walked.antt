@@ -1,6 +1,5 @@
 -- The links written so far, along the walk of links from where the solver is stuck.
 use mathlib.Core.Path.{_≡_}
-use mathlib.Core.Logic.{_⊎_}
 use mathlib.Core.List.{List, [], _∷_, map}
 use Prim.Native.Nat.{ℕ, zero, suc, _+_, _*_, _≤_, _<_}
 use lib.ListN.{length, getD}
@@ -50,7 +49,7 @@ far (suc most) par (suc v) = suc (far most par (getD par (suc v) 0))
 abbrev pub NoneSlow : Core → ℕ → Type 0
 NoneSlow c p = (u v W D : ℕ) → Best (c .shape) (c .registers) u v W D → p < D → ⊥
 
--- the words of the links ls stand before place `at`, from block `start` to v; with their k's, `bottom` is no lower than what `top` asks of the start
+-- the words of the links ls stand before place `at`; the links lead from block `start` to v, and their k's with `top` make at most `bottom`
 pub record Linked (c : Core) (p start v top bottom : ℕ) (ls : List Link) (w w′ : List ℕ) (at : ℕ) : Type 0 where
   pub words-are : w′ ≡ sets w 0 (allWords ls)
   pub at-is : at ≡ length (allWords ls)

@@ -1,12 +1,11 @@
 -- A link of the solver's, on a sheet, asks for a link of a loop with the same bound.
 -- Assumes nothing.
-use mathlib.Core.Path.{_≡_, refl, sym, ap, _∙_, subst}
+use mathlib.Core.Path.{_≡_, refl, _∙_}
 use mathlib.Core.List.{List}
-use Prim.Native.Nat.{ℕ, _+_, _*_, _<_, _≤_}
+use Prim.Native.Nat.{ℕ, _+_, _*_, _<_}
 use native.Mathlib.Omega.{arith}
 use lib.ListN.{getD}
 use lib.IntN.{ℤ, pos, _-ℤ_}
-use Rattle.sheet.specs.Lag.{excess}
 use Rattle.sheet.specs.Core.{coreOf, shapeOf, blocksIn, wiresIn, registersIn, upperIn}
 use Rattle.sheet.specs.Laws.Integer.{up, down, minus}
 use Rattle.sheet.specs.Laws.Lag.{excess-parts}

@@ -11,10 +11,10 @@ use Rattle.sheet.specs.Core.{Core, coreOf, shapeOf, registersIn}
 use Rattle.sheet.specs.Sheet.{Formed}
 use Rattle.sheet.specs.Laws.Formed.{formed-core}
 use Rattle.paths.specs.Path.{Joins}
-use Rattle.paths.specs.Table.{Best, best}
-use Rattle.paths.specs.Laws.Path.{endOf, joins-start-lt, joins-end-lt, joins-end}
+use Rattle.paths.specs.Table.{best}
+use Rattle.paths.specs.Laws.Path.{joins-start-lt, joins-end-lt, joins-end}
 use Rattle.paths.specs.Laws.Entry.{entry-unique}
-use Rattle.loops.specs.Link.{Link, wire, path, upper, lower, ceiling, wordsOf, linkA, linkB, linkK, Good}
+use Rattle.loops.specs.Link.{wire, path, upper, ceiling}
 use Rattle.witness.specs.Trace.{Tabled, Traced}
 use Rattle.witness.specs.Written.{Asked, for-upper, for-path, for-wire, for-ceiling, PathWritten, LinkWritten}
 use Rattle.witness.specs.Laws.Sets.{sets-after}

@@ -2,7 +2,6 @@
 -- Assumes nothing.
 use mathlib.Core.Path.{_≡_, refl, sym, ap, _∙_}
 use mathlib.Core.List.{List, [], _∷_, _++_, map, append-nil}
-use mathlib.Core.Logic.{_≢_}
 use Prim.Native.Nat.{ℕ, suc, _+_, _*_, _≤_, _<_}
 use native.Mathlib.Omega.{arith}
 use native.Mathlib.Nat.{suc-mul, mul-le-mul-right}
@@ -14,7 +13,7 @@ use Rattle.sheet.specs.Sheet.{Formed}
 use Rattle.sheet.specs.Laws.Integer.{up, down}
 use Rattle.paths.specs.Laws.Path.{endOf, joins-start-lt}
 use Rattle.paths.specs.Laws.Pigeons.{NotIn, NoDup, AllBelow, pigeons}
-use Rattle.loops.specs.Link.{Link, wire, path, upper, lower, ceiling, wordsOf, allWords, linkA, linkB, linkK, Good, Chain, sumK, NoPath}
+use Rattle.loops.specs.Link.{Link, wire, path, upper, lower, ceiling, wordsOf, allWords, linkA, linkB, Good, Chain, NoPath}
 use Rattle.loops.specs.Laws.Chain.{chain-append, sum-snoc}
 use Rattle.loops.specs.Laws.Words.{words-append}
 use Rattle.witness.specs.Written.{LinkWritten}

@@ -1,6 +1,5 @@
 -- A loop without kind 2 is valid at every period.
 -- Assumes nothing.
-use mathlib.Core.Path.{_≡_}
 use mathlib.Core.List.{List, [], _∷_}
 use Prim.Native.Nat.{ℕ}
 use Rattle.sheet.specs.Core.{Core}

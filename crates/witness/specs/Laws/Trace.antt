@@ -8,11 +8,11 @@ use native.Mathlib.Decide.{ℕ-discrete}
 use native.Mathlib.Omega.{arith}
 use lib.ListN.{length, getD, set, drop, length-append, length-drop, length-set, drop-of-length-le}
 use lib.Seq.{drop-cons, getD-set-same, drop-set-lt}
-use Rattle.sheet.specs.Core.{Shape, blocksIn, wiresIn, delayIn, fromIn, toIn, registersIn, shapeOf}
+use Rattle.sheet.specs.Core.{Shape, wiresIn, delayIn, fromIn, registersIn, shapeOf}
 use Rattle.sheet.specs.Reads.{WireIs}
 use Rattle.paths.specs.Path.{Joins, registersOn, delayOn}
 use Rattle.paths.specs.Table.{LoopAt, Best, Entry, best, none}
-use Rattle.paths.specs.Laws.Path.{passes-all, joins-append, joins-end, joins-start-lt, joins-end-lt, between-passes, registers-append}
+use Rattle.paths.specs.Laws.Path.{passes-all, joins-append, joins-start-lt, joins-end-lt, between-passes, registers-append}
 use Rattle.paths.specs.Laws.Entry.{entry-unique, fewest-short, backward}
 use Rattle.paths.specs.Laws.Parts.{row-before, square-small}
 use Rattle.witness.specs.Trace.{Tabled, Based, Completed, NoneBefore, Bare, Apart, Traced, Suffix, Tracing}

@@ -8,12 +8,12 @@ use native.Mathlib.Omega.{arith}
 use native.Mathlib.Decide.{ℕ-discrete, decLt}
 use native.Mathlib.Nat.{mul-le-mul, mul-le-mul-right}
 use lib.IntN.{ℤ, negℤ}
-use lib.ListN.{length, getD, take, length-take}
-use lib.Seq.{sets, length-take-le}
+use lib.ListN.{length, getD, take}
+use lib.Seq.{sets}
 use Rattle.sheet.specs.Core.{Core, coreOf, blocksIn, lowerIn}
 use Rattle.sheet.specs.Sheet.{Formed}
 use Rattle.sheet.specs.Laws.Formed.{formed-core}
-use Rattle.sheet.specs.Laws.Integer.{up, down, negated}
+use Rattle.sheet.specs.Laws.Integer.{negated}
 use Rattle.sheet.specs.Laws.Lag.{excess-parts}
 use Rattle.sheet.specs.Laws.Sheet.{lower-fits}
 use Rattle.paths.specs.Laws.Pigeons.{NotIn}

@@ -1,6 +1,5 @@
 -- The number tells the kind; whatever it was asked for by is what was written.
 use native.Mathlib.Omega.{arith}
-use native.Mathlib.Omega.{arith}
 use Rattle.sheet.specs.Core.{coreOf}
 use Rattle.witness.specs.Laws.Link.{sheet-formed, asked-a, asked-i, path-a, path-b, path-small, upper-written, wire-written, ceiling-written, path-written}
 use borrow.Author.Needs.{needs}

@@ -1,6 +1,5 @@
 -- One word, and one more.
 use native.Mathlib.Omega.{arith}
-use native.Mathlib.Omega.{arith}
 use Rattle.witness.specs.Laws.Sets.{sets-two}
 use borrow.Author.Needs.{needs}
 use Rattle.witness.proofs.link.write_pair.Statement.{statement}

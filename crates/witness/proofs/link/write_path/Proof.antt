@@ -1,6 +1,5 @@
 -- The path found backward, after its head.
 use native.Mathlib.Omega.{arith}
-use native.Mathlib.Omega.{arith}
 use lib.ListN.{length-drop}
 use Rattle.witness.specs.Laws.Link.{path-made}
 use borrow.Author.Needs.{needs}

@@ -1,6 +1,4 @@
 -- A formed sheet refuses no block in range.
-use native.Mathlib.Omega.{arith}
-use native.Mathlib.Omega.{arith}
 use Rattle.sheet.specs.Laws.Sheet.{block-read, block-refused}
 use borrow.Author.Needs.{needs}
 use Rattle.witness.proofs.read.delay_of.Statement.{statement}

@@ -1,6 +1,5 @@
 -- The entry is inside the table.
 use native.Mathlib.Omega.{arith}
-use native.Mathlib.Omega.{arith}
 use Rattle.witness.specs.Laws.Trace.{entry-in}
 use borrow.Author.Needs.{needs}
 use Rattle.witness.proofs.read.entry_at.Statement.{statement}

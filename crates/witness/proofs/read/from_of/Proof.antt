@@ -1,6 +1,5 @@
 -- A formed sheet refuses no wire in range.
 use native.Mathlib.Omega.{arith}
-use native.Mathlib.Omega.{arith}
 use Rattle.sheet.specs.Laws.Sheet.{wire-read, wire-refused}
 use borrow.Author.Needs.{needs}
 use Rattle.witness.proofs.read.from_of.Statement.{statement}

@@ -1,6 +1,5 @@
 -- Each test on the numbers is a side of the definition.
 use native.Mathlib.Omega.{arith}
-use native.Mathlib.Omega.{arith}
 use mathlib.Core.Path.{_∙_, sym}
 use borrow.Author.Tests.{not-true, not-false}
 use Rattle.sheet.specs.Laws.Rules.{told-true, told-false}

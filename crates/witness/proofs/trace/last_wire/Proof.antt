@@ -1,7 +1,6 @@
 -- The wire that completes the entry is never behind.
 use borrow.Author.Needs.{needs}
 use native.Mathlib.Omega.{arith}
-use native.Mathlib.Omega.{arith}
 use Prim.Native.Nat.{_+_, _*_, _-_, _<_}
 use lib.ListN.{getD}
 use borrow.Author.Tests.{not-true, not-false}

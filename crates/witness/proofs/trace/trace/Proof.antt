@@ -1,11 +1,8 @@
 -- The wires found lead on from b, and complete the best paths to b to best paths.
-use borrow.Author.Needs.{needs}
-use native.Mathlib.Omega.{arith}
 use native.Mathlib.Omega.{arith}
 use Prim.Native.Nat.{_-_}
 use mathlib.Core.Path.{_∙_}
 use lib.ListN.{length-set}
-use borrow.Author.Tests.{not-true, not-false}
 use Rattle.sheet.specs.Laws.Rules.{told-true, told-false}
 use Rattle.witness.specs.Trace.{Tracing}
 use Rattle.witness.specs.Laws.Trace.{bare-traced, tracing-start, tracing-room, tracing-next, tracing-end}

@@ -1,7 +1,4 @@
 -- The walk has met neither a nor the host.
-use borrow.Author.Needs.{needs}
-use native.Mathlib.Omega.{arith}
-use native.Mathlib.Omega.{arith}
 use Rattle.witness.specs.Walked.{OnWalk, far}
 use Rattle.witness.specs.Laws.Walked.{on-start, on-in, on-host, on-met, on-less, on-next}
 use Rattle.witness.proofs.walk.walk_end.Statement.{statement}

@@ -1,6 +1,4 @@
 -- Nothing, or the two words of kind 4.
-use native.Mathlib.Omega.{arith}
-use native.Mathlib.Omega.{arith}
 use mathlib.Core.Path.{refl}
 use borrow.Author.Needs.{needs}
 use Rattle.witness.proofs.walk.write_start.Statement.{statement}
