@@ -184,8 +184,8 @@ module _ (s : List ℕ) (n : ℕ) (registers delays : List ℕ) (t : Tabled s n 
         start-registers W′ D′ (inr q) =
             entry-unique (shapeOf s) (registersIn s) u f W′ D′ _ _ (best (rw (x .from-is) (q .1))) from-entry .0 ∙ sym (hw .1 (λ z. q .0 (sym (x .from-is) ∙ z)))
 
-        pub other-registers : (W ≡ bw + w → ⊥) → Completed (shapeOf s) (registersIn s) u v W D j → ⊥
-        other-registers bad c = bad (omega (arith, c .registers-is, start-registers (c .registers) (c .delay) (c .base), x .registers-is))
+        pub other-registers : (W′ : ℕ) → W′ ≡ W → (W′ ≡ bw + w → ⊥) → Completed (shapeOf s) (registersIn s) u v W D j → ⊥
+        other-registers W′ e bad c = bad (omega (arith, c .registers-is, start-registers (c .registers) (c .delay) (c .base), x .registers-is))
 
         module _ (bd : ℕ) (hd : Based (delayIn s u) u f (getD delays (u * n + f) 0) bd) where
           start-delay : (W′ D′ : ℕ) → ((fromIn s j ≡ u) × (W′ ≡ 0) × (D′ ≡ delayIn s u)) ⊎ ((fromIn s j ≡ u → ⊥) × Best (shapeOf s) (registersIn s) u (fromIn s j) W′ D′) → D′ ≡ bd
@@ -193,11 +193,12 @@ module _ (s : List ℕ) (n : ℕ) (registers delays : List ℕ) (t : Tabled s n 
           start-delay W′ D′ (inr q) =
               entry-unique (shapeOf s) (registersIn s) u f W′ D′ _ _ (best (rw (x .from-is) (q .1))) from-entry .1 ∙ sym (hd .1 (λ z. q .0 (sym (x .from-is) ∙ z)))
 
-          pub other-delay : (d : ℕ) → d ≡ delayIn s v → (D ≡ bd + d → ⊥) → Completed (shapeOf s) (registersIn s) u v W D j → ⊥
-          other-delay d e bad c = bad (omega (arith, c .delay-is, start-delay (c .registers) (c .delay) (c .base)))
+          pub other-delay : (D′ d : ℕ) → D′ ≡ D → d ≡ delayIn s v → (D′ ≡ bd + d → ⊥) → Completed (shapeOf s) (registersIn s) u v W D j → ⊥
+          other-delay D′ d e z bad c = bad (omega (arith, c .delay-is, start-delay (c .registers) (c .delay) (c .base)))
 
-          pub right-wire : (d : ℕ) → d ≡ delayIn s v → W < 4294967295 → j < wiresIn s → t′ ≡ v → W ≡ bw + w → D ≡ bd + d → Completed (shapeOf s) (registersIn s) u v W D j
-          right-wire d z small l e p q = record {
+          pub right-wire : (W′ D′ d : ℕ) → W′ ≡ W → D′ ≡ D → d ≡ delayIn s v → W < 4294967295 → j < wiresIn s → t′ ≡ v → W′ ≡ bw + w → D′ ≡ bd + d
+              → Completed (shapeOf s) (registersIn s) u v W D j
+          right-wire W′ D′ d x₁ x₂ z small l e p q = record {
             registers = bw;
             delay = bd;
             wire-lt = l;

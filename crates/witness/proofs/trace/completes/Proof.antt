@@ -1,6 +1,5 @@
 -- Each test on the numbers is a side of the definition.
 use native.Mathlib.Omega.{arith}
-use mathlib.Core.Path.{_∙_, sym}
 use borrow.Author.Tests.{not-true, not-false}
 use Rattle.sheet.specs.Laws.Rules.{told-true, told-false}
 use Rattle.sheet.specs.Laws.Sheet.{wire-read, wire-refused}
@@ -37,7 +36,7 @@ adds-requires c κs = search needs
 
 returns-3 : tie.Need-returns-3
 returns-3 c = let x = wire-read (c .before .before .before .before .before .before .before .before .before .before .args .s .now) (c .before .before .before .before .before .before .before .before .before .before .args .j) (c .before .before .before .before .before .before .before .before .read-wire .result) _ _ _ (c .before .before .before .before .before .before .before .before .read-wire .ensures) (c .before .before .before .before .before .before .f .given .1) .0 in
-    other-registers (c .before .before .before .before .before .before .before .before .before .before .args .s .now) _ _ _ (c .before .before .before .before .before .before .before .before .before .before .pre .0) _ _ _ _ _ _ _ _ x (c .before .before .before .before .before .before .before .before .before .before .pre .1) _ (c .before .before .before .base-registers .ensures) (λ e. told-false _ (c .before .adds .result) (c .before .adds .ensures) (not-true _ (c .if2 .taken)) (c .before .before .entry-at .ensures ∙ e))
+    other-registers (c .before .before .before .before .before .before .before .before .before .before .args .s .now) _ _ _ (c .before .before .before .before .before .before .before .before .before .before .pre .0) _ _ _ _ _ _ _ _ x (c .before .before .before .before .before .before .before .before .before .before .pre .1) _ (c .before .before .before .base-registers .ensures) _ (c .before .before .entry-at .ensures) (told-false _ (c .before .adds .result) (c .before .adds .ensures) (not-true _ (c .if2 .taken)))
 
 base-delay-requires : tie.Need-base-delay-requires
 base-delay-requires c κs = let x = wire-read (c .before .before .before .before .before .before .before .before .before .before .args .s .now) (c .before .before .before .before .before .before .before .before .before .before .args .j) (c .before .before .before .before .before .before .before .before .read-wire .result) _ _ _ (c .before .before .before .before .before .before .before .before .read-wire .ensures) (c .before .before .before .before .before .before .f .given .1) .0 in
@@ -54,11 +53,11 @@ adds-requires-2 c κs = search needs
 
 returns-4 : tie.Need-returns-4
 returns-4 c = let x = wire-read (c .before .before .before .before .before .before .before .before .before .before .before .before .before .before .before .args .s .now) (c .before .before .before .before .before .before .before .before .before .before .before .before .before .before .before .args .j) (c .before .before .before .before .before .before .before .before .before .before .before .before .before .read-wire .result) _ _ _ (c .before .before .before .before .before .before .before .before .before .before .before .before .before .read-wire .ensures) (c .before .before .before .before .before .before .before .before .before .before .before .f .given .1) .0 in
-    other-delay (c .before .before .before .before .before .before .before .before .before .before .before .before .before .before .before .args .s .now) _ _ _ (c .before .before .before .before .before .before .before .before .before .before .before .before .before .before .before .pre .0) _ _ _ _ _ _ _ _ x (c .before .before .before .before .before .before .before .before .before .before .before .before .before .before .before .pre .1) _ (c .before .before .before .before .before .before .before .before .base-registers .ensures) _ (c .before .before .before .before .base-delay .ensures) _ (c .before .before .delay-of .ensures) (λ e. told-false _ (c .before .adds2 .result) (c .before .adds2 .ensures) (not-true _ (c .if3 .taken)) (c .before .before .before .entry-at2 .ensures ∙ e))
+    other-delay (c .before .before .before .before .before .before .before .before .before .before .before .before .before .before .before .args .s .now) _ _ _ (c .before .before .before .before .before .before .before .before .before .before .before .before .before .before .before .pre .0) _ _ _ _ _ _ _ _ x (c .before .before .before .before .before .before .before .before .before .before .before .before .before .before .before .pre .1) _ (c .before .before .before .before .before .before .before .before .base-registers .ensures) _ (c .before .before .before .before .base-delay .ensures) _ _ (c .before .before .before .entry-at2 .ensures) (c .before .before .delay-of .ensures) (told-false _ (c .before .adds2 .result) (c .before .adds2 .ensures) (not-true _ (c .if3 .taken)))
 
 returns-5 : tie.Need-returns-5
 returns-5 c = let x = wire-read (c .before .before .before .before .before .before .before .before .before .before .before .before .before .before .before .args .s .now) (c .before .before .before .before .before .before .before .before .before .before .before .before .before .before .before .args .j) (c .before .before .before .before .before .before .before .before .before .before .before .before .before .read-wire .result) _ _ _ (c .before .before .before .before .before .before .before .before .before .before .before .before .before .read-wire .ensures) (c .before .before .before .before .before .before .before .before .before .before .before .f .given .1) .0 in
-    right-wire (c .before .before .before .before .before .before .before .before .before .before .before .before .before .before .before .args .s .now) _ _ _ (c .before .before .before .before .before .before .before .before .before .before .before .before .before .before .before .pre .0) _ _ _ _ _ _ _ _ x (c .before .before .before .before .before .before .before .before .before .before .before .before .before .before .before .pre .1) _ (c .before .before .before .before .before .before .before .before .base-registers .ensures) _ (c .before .before .before .before .base-delay .ensures) _ (c .before .before .delay-of .ensures) (c .before .before .before .before .before .before .before .before .before .before .before .before .before .before .before .pre .4) (c .before .before .before .before .before .before .before .before .before .before .before .before .before .before .before .pre .3) (c .before .before .before .before .before .before .before .before .before .if1 .left) (sym (c .before .before .before .before .before .before .before .entry-at .ensures) ∙ told-true _ (c .before .before .before .before .before .before .adds .result) (c .before .before .before .before .before .before .adds .ensures) (not-false _ (c .before .before .before .before .before .if2 .left))) (sym (c .before .before .before .entry-at2 .ensures) ∙ told-true _ (c .before .adds2 .result) (c .before .adds2 .ensures) (not-false _ (c .if3 .left)))
+    right-wire (c .before .before .before .before .before .before .before .before .before .before .before .before .before .before .before .args .s .now) _ _ _ (c .before .before .before .before .before .before .before .before .before .before .before .before .before .before .before .pre .0) _ _ _ _ _ _ _ _ x (c .before .before .before .before .before .before .before .before .before .before .before .before .before .before .before .pre .1) _ (c .before .before .before .before .before .before .before .before .base-registers .ensures) _ (c .before .before .before .before .base-delay .ensures) _ _ _ (c .before .before .before .before .before .before .before .entry-at .ensures) (c .before .before .before .entry-at2 .ensures) (c .before .before .delay-of .ensures) (c .before .before .before .before .before .before .before .before .before .before .before .before .before .before .before .pre .4) (c .before .before .before .before .before .before .before .before .before .before .before .before .before .before .before .pre .3) (c .before .before .before .before .before .before .before .before .before .if1 .left) (told-true _ (c .before .before .before .before .before .before .adds .result) (c .before .before .before .before .before .before .adds .ensures) (not-false _ (c .before .before .before .before .before .if2 .left))) (told-true _ (c .before .adds2 .result) (c .before .adds2 .ensures) (not-false _ (c .if3 .left)))
 
 pub completes-spec : {M : Type 1} → statement M
 completes-spec =
