@@ -6,3 +6,4 @@ pub mod Asked
 pub mod Linked
 pub mod Walked
 pub mod Plain
+pub mod Underway

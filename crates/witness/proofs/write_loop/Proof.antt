@@ -1,6 +1,7 @@
 -- The walk's end decides how the loop begins; the rule and the links of the walk follow.
 use native.Mathlib.Omega.{arith}
-use Rattle.witness.specs.Laws.Walked.{halted-table, halted-walk, halted-room, halted-a, halted-asked, begun-room, underway-start}
+use Rattle.witness.specs.Laws.Walked.{halted-table}
+use Rattle.witness.specs.Laws.Underway.{halted-walk, halted-room, halted-a, halted-asked, begun-room, underway-start}
 use borrow.Author.Needs.{needs}
 use Rattle.witness.proofs.write_loop.Statement.{statement}
 use Rattle.witness.proofs.write_loop.Tie as tie

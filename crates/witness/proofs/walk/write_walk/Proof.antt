@@ -5,7 +5,7 @@ use mathlib.Core.List.{List}
 use Prim.Native.Nat.{ℕ}
 use lib.ListN.{length}
 use Rattle.witness.specs.Walked.{Underway, far}
-use Rattle.witness.specs.Laws.Walked.{underway-table, underway-in, underway-asked, underway-room, underway-less, underway-next, underway-ends}
+use Rattle.witness.specs.Laws.Underway.{underway-table, underway-in, underway-asked, underway-room, underway-less, underway-next, underway-ends}
 use Rattle.witness.proofs.walk.write_walk.Statement.{statement}
 use Rattle.witness.proofs.walk.write_walk.Tie as tie
 
