@@ -2,6 +2,7 @@
 
 mod cases;
 mod known;
+mod lags;
 mod links;
 mod paths;
 mod questions;
@@ -10,6 +11,8 @@ mod record;
 mod refute;
 mod shapes;
 mod sheet;
+#[cfg(test)]
+mod trial;
 
 use std::path::Path;
 use std::process::ExitCode;
