@@ -3,7 +3,9 @@ ghost use Prim.Native.Nat.{_<_};
 ghost use mathlib.Core.Path.{_≡_};
 ghost use lib.ListN.{length};
 ghost use Rattle.sheet.specs.Rules.{Told};
-ghost use Rattle.compare.specs.Lent.{KeptFrom, byteBefore, entryBefore};
+ghost use Rattle.compare.specs.Lent.{KeptFrom, LagsKeptFrom, byteBefore, entryBefore, excessBefore, wordBefore};
+use sheet::lag::excess_of;
+use sheet::lag::lag_of;
 
 // What entry i of a list of u32 holds before a call: in no table, so that a number that was written shows.
 fn before(i: usize) -> u32
@@ -61,6 +63,68 @@ pub fn kept_bytes(list: &[u8; 4300], start: usize) -> bool
 {
     for i in start..4300usize {
         if list[i] != byte_before(i) {
+            return false;
+        }
+    }
+    true
+}
+
+// What entry i of a loop list holds before a call: no word of a loop is as large.
+fn word_before(i: usize) -> u16
+    requires { ⌜ i < 4300 ⌝ }
+    ensures { λ r. ⌜ r ≡ wordBefore i ⌝ }
+{
+    (50000 + i) as u16
+}
+
+// A loop list to lend, made anew for every call.
+pub fn marked_words() -> [u16; 4300]
+    ensures { λ r. ⌜ (length r ≡ 4300) × KeptFrom wordBefore 0 r ⌝ }
+{
+    let mut list = [0u16; 4300];
+    for i in 0..4300usize {
+        list[i] = word_before(i);
+    }
+    list
+}
+
+// Every word from `count` on still holds what it held before the call.
+pub fn kept_words(list: &[u16; 4300], count: usize) -> bool
+    ensures { λ r. ⌜ Told (KeptFrom wordBefore count (now (list .entry))) r ⌝ }
+{
+    for i in count..4300usize {
+        if list[i] != word_before(i) {
+            return false;
+        }
+    }
+    true
+}
+
+// What entry i of a lag list holds before a call, as an excess number: no range has the lag.
+fn excess_before(i: usize) -> u32
+    requires { ⌜ i < 4300 ⌝ }
+    ensures { λ r. ⌜ r ≡ excessBefore i ⌝ }
+{
+    52768 + i as u32
+}
+
+// A lag list to lend, made anew for every call.
+pub fn marked_lags() -> [i16; 4300]
+    ensures { λ r. ⌜ (length r ≡ 4300) × LagsKeptFrom 0 r ⌝ }
+{
+    let mut list = [0i16; 4300];
+    for i in 0..4300usize {
+        list[i] = lag_of(excess_before(i));
+    }
+    list
+}
+
+// Every lag from `given` on still holds what it held before the call.
+pub fn kept_lags(list: &[i16; 4300], given: usize) -> bool
+    ensures { λ r. ⌜ Told (LagsKeptFrom given (now (list .entry))) r ⌝ }
+{
+    for i in given..4300usize {
+        if excess_of(list[i]) != excess_before(i) {
             return false;
         }
     }

@@ -1,5 +1,7 @@
 // Text for standard output, gathered in a buffer: one write for each 4,096 bytes and not one for each number.
 ghost use Prim.Native.Nat.{_≤_};
+use sheet::answer::Answer;
+use sheet::lag::excess_of;
 
 pub fn byte(out: &mut [u8; 4096], used: &mut usize, x: u8) {
     let at = *used;
@@ -29,6 +31,22 @@ pub fn number(out: &mut [u8; 4096], used: &mut usize, x: u32) {
 pub fn next_number(out: &mut [u8; 4096], used: &mut usize, x: u32) {
     byte(out, used, b' ');
     number(out, used, x);
+}
+
+// The line that an answer begins with, all of it or without its value.
+pub fn head(out: &mut [u8; 4096], used: &mut usize, code: u32, answer: Answer) {
+    number(out, used, code);
+    next_number(out, used, answer.number);
+    next_number(out, used, answer.place);
+    next_number(out, used, answer.value);
+    byte(out, used, b'\n');
+}
+
+pub fn short_head(out: &mut [u8; 4096], used: &mut usize, code: u32, answer: Answer) {
+    number(out, used, code);
+    next_number(out, used, answer.number);
+    next_number(out, used, answer.place);
+    byte(out, used, b'\n');
 }
 
 // A line with a name and the first `count` entries of a list.
@@ -65,6 +83,34 @@ pub fn bytes(
     text(out, used, name);
     for i in 0..count {
         next_byte(out, used, entries[i]);
+    }
+    byte(out, used, b'\n');
+}
+
+// From the lag's excess number, which has no sign.
+fn next_lag(out: &mut [u8; 4096], used: &mut usize, lag: i16) {
+    let e = excess_of(lag);
+    if e < 32768 {
+        text(out, used, b" -");
+        number(out, used, 32768 - e);
+        return;
+    }
+    next_number(out, used, e - 32768);
+}
+
+// The same of a list of lags.
+pub fn lag_list(
+    out: &mut [u8; 4096],
+    used: &mut usize,
+    name: &[u8],
+    entries: &[i16; 4300],
+    count: usize,
+)
+    requires { ⌜ count ≤ 4300 ⌝ }
+{
+    text(out, used, name);
+    for i in 0..count {
+        next_lag(out, used, entries[i]);
     }
     byte(out, used, b'\n');
 }

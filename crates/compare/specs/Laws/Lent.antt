@@ -7,13 +7,16 @@ use native.Mathlib.Omega.{arith}
 use lib.ListN.{length, getD, set}
 use lib.Seq.{getD-set-same, getD-set-other}
 
-module _ (f : ℕ → ℕ) (l : List ℕ) (first i : ℕ) where
-  kept-at : getD l i 0 ≡ f i → (k : ℕ) → (k < i → getD l k 0 ≡ f k) → k < i + 1 → Dec (k ≡ i) → getD l k 0 ≡ f k
-  kept-at here k below h (yes e) = rw e here
-  kept-at here k below h (no e) = below (omega arith)
+module _ (P : ℕ → Type 0) (first i : ℕ) where
+  at-step : P i → (k : ℕ) → (k < i → P k) → k < i + 1 → Dec (k ≡ i) → P k
+  at-step here k below h (yes e) = rw e here
+  at-step here k below h (no e) = below (omega arith)
 
-  pub kept-step : ((k : ℕ) → first ≤ k → k < i → getD l k 0 ≡ f k) → getD l i 0 ≡ f i → (k : ℕ) → first ≤ k → k < i + 1 → getD l k 0 ≡ f k
-  kept-step all here k f′ h = kept-at here k (all k f′) h (ℕ-discrete k i)
+  pub step-to : ((k : ℕ) → first ≤ k → k < i → P k) → P i → (k : ℕ) → first ≤ k → k < i + 1 → P k
+  step-to all here k f h = at-step here k (all k f) h (ℕ-discrete k i)
+
+pub kept-step : (f : ℕ → ℕ) (l : List ℕ) (first i : ℕ) → ((k : ℕ) → first ≤ k → k < i → getD l k 0 ≡ f k) → getD l i 0 ≡ f i → (k : ℕ) → first ≤ k → k < i + 1 → getD l k 0 ≡ f k
+kept-step f l first i = step-to (λ k. getD l k 0 ≡ f k) first i
 
 -- For lists of any kind of number; nothing is where the list ends.
 module _ {A : Type 0} (nothing : A) (f : ℕ → A) (l : List A) (i : ℕ) (x : A) (fits : i < length l) (right : x ≡ f i) where
