@@ -1,18 +1,18 @@
 // The questions: for each a function that asks it and writes its lines, and a branch in `question`.
 ghost use Prim.Native.Nat.{_≤_};
 ghost use lib.ListN.{length};
-use crate::given::lags;
-use crate::given::words;
-use crate::lent::kept;
-use crate::lent::kept_bytes;
-use crate::lent::marked;
-use crate::lent::marked_bytes;
-use crate::out::bytes;
-use crate::out::head;
-use crate::out::list;
-use crate::out::text;
 use crate::solve::best;
 use crate::solve::lags_at;
+use records::given::lags;
+use records::given::words;
+use records::lent::kept;
+use records::lent::kept_bytes;
+use records::lent::marked;
+use records::lent::marked_bytes;
+use records::out::bytes;
+use records::out::head;
+use records::out::list;
+use records::out::text;
 
 fn check(out: &mut [u8; 4096], used: &mut usize, sheet: &[u8]) {
     let answer = paths::check(sheet);

@@ -1,7 +1,4 @@
 // Asks the library every question of a case file on standard input and writes the answers: second/README.md has both formats.
-mod out; // text for standard output, gathered in a buffer
-mod lent; // what a lent list holds before a call, and whether it still does
-mod given; // the lags or words that a record gives
 mod solve; // the two lag questions, and whether a loop proves their refusal
 mod ask; // each question: what is asked and what is written
 mod cases; // the records of a case file, one after another

@@ -1,13 +1,13 @@
 // The two lag questions: the lines with their answers, and whether the loop that comes with 10 or 11 proves it.
 ghost use Prim.Native.Nat.{_≤_};
-use crate::lent::kept_lags;
-use crate::lent::kept_words;
-use crate::lent::marked_lags;
-use crate::lent::marked_words;
-use crate::out::head;
-use crate::out::lag_list;
-use crate::out::short_head;
-use crate::out::text;
+use records::lent::kept_lags;
+use records::lent::kept_words;
+use records::lent::marked_lags;
+use records::lent::marked_words;
+use records::out::head;
+use records::out::lag_list;
+use records::out::short_head;
+use records::out::text;
 use sheet::answer::Answer;
 
 // Whether the loop check says yes to the first `count` words.
