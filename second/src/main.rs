@@ -1,6 +1,8 @@
 //! The second program: `second cases DIR` writes the cases and expected answers, the other commands ask one sheet.
 
+mod bench;
 mod cases;
+mod fast;
 mod known;
 mod lags;
 mod links;
@@ -19,7 +21,7 @@ use std::process::ExitCode;
 use std::str::FromStr;
 use std::{env, fs, io};
 
-const USAGE: &str = "usage: second cases DIR | second one FILE | second move FILE LAG... | second loop FILE C WORD...";
+const USAGE: &str = "usage: second cases DIR | second one FILE | second move FILE LAG... | second loop FILE C WORD... | second fast-bench COUNT SEED";
 
 fn write_cases(dir: &Path) -> io::Result<()> {
     let (mut input, mut expected) = (Vec::new(), String::new());
@@ -102,6 +104,13 @@ fn main() -> ExitCode {
             };
             fs::read(file).map(|bytes| println!("loop: {}", show(questions::check_loop(&bytes, c, &words))))
         }
+        ["fast-bench", count, seed] => match (count.parse(), seed.parse()) {
+            (Ok(count @ 1..), Ok(seed)) => {
+                bench::run(count, seed);
+                Ok(())
+            }
+            _ => return bad_usage(),
+        },
         _ => return bad_usage(),
     };
     match outcome {
