@@ -41,25 +41,34 @@ fn chain(rng: &mut Random, every: usize) -> Sheet {
     with_ranges(sheet, 100)
 }
 
-pub const KINDS: [Kind; 7] = [
+/// From the last block down to the host and back, a register on each wire: no order of register-free wires helps here.
+fn descending(rng: &mut Random) -> Sheet {
+    let n = MOST_BLOCKS;
+    let mut sheet = shapes::chain(rng, n, 0, 10_000, true);
+    sheet.wires = (0..MOST_WIRES).map(|j| wire((j + 1) % n, j % n, 1 + (j / n) as u16)).collect();
+    with_ranges(sheet, 100)
+}
+
+pub const KINDS: [Kind; 8] = [
     Kind { name: "random, 0 to 2 registers, wide ranges", sheet: |rng| random(rng, 2, 500) },
     Kind { name: "random, 0 or 1 registers, wide ranges", sheet: |rng| random(rng, 1, 500) },
     Kind { name: "random, 0 to 2 registers, ranges -3..3", sheet: |rng| random(rng, 2, 3) },
     Kind { name: "random, 0 to 2,000 registers", sheet: |rng| random(rng, 2_000, 500) },
     Kind { name: "chain in reverse, 1 register in 8 wires", sheet: |rng| chain(rng, 8) },
     Kind { name: "chain in reverse, 1 register on the way back", sheet: |rng| chain(rng, MOST_BLOCKS) },
+    Kind { name: "chain against the block numbers", sheet: descending },
     // Any ranges: hardly ever are any lags permitted.
     Kind { name: "random, no permitted lags", sheet: |rng| shapes::connected(rng, MOST_BLOCKS, MOST_WIRES, 2, 10_000) },
 ];
 
 /// The quickest of several runs, so that other work on the machine counts little.
 fn quickest(mut run: impl FnMut()) -> Duration {
-    let once = |run: &mut dyn FnMut()| {
+    let mut once = || {
         let start = Instant::now();
         run();
         start.elapsed()
     };
-    (0..5).map(|_| once(&mut run)).min().expect("five runs")
+    (0..5).map(|_| once()).min().expect("five runs")
 }
 
 struct Times {

@@ -190,65 +190,87 @@ struct Table {
     by_end: [Row<u32>; N],
 }
 
-fn relax(end: &mut Row<u32>, start: &Row<u32>, cost: u32) -> bool {
-    let mut changed = 0;
+fn relax(end: &mut Row<u32>, start: &Row<u32>, cost: u32) {
     for (old, before) in end.iter_mut().zip(start) {
-        let new = (before + cost).min(*old);
-        changed |= new ^ *old;
-        *old = new;
+        *old = (before + cost).min(*old);
+    }
+}
+
+/// As `relax` by four wires at once, which end here; whether anything changed.
+fn relax_four(end: &mut Row<u32>, starts: [&Row<u32>; 4], costs: [u32; 4]) -> bool {
+    let mut changed = 0;
+    for u in 0..N {
+        let first = (starts[0][u] + costs[0]).min(starts[1][u] + costs[1]);
+        let second = (starts[2][u] + costs[2]).min(starts[3][u] + costs[3]);
+        let new = first.min(second).min(end[u]);
+        changed |= new ^ end[u];
+        end[u] = new;
     }
     changed != 0
 }
 
-/// The wires, each start block's together, as (to, path number of the wire).
-struct Leaving {
+/// The wires by their ends, as (from, path number of the wire), and all blocks that a block's wires lead to.
+struct Arriving {
     first: [u16; N + 1],
-    ends: [(u8, u32); MOST_WIRES],
+    starts: [(u8, u32); MOST_WIRES],
+    next: Row<u64>,
 }
 
-fn leaving(core: &Core, order: &Order) -> Leaving {
+fn arriving(core: &Core, order: &Order) -> Arriving {
     let mut first = [0u16; N + 1];
-    for &u in &core.from[..core.m] {
-        first[u as usize + 1] += 1;
+    for &v in &core.to[..core.m] {
+        first[v as usize + 1] += 1;
     }
-    for u in 0..N {
-        first[u + 1] += first[u];
+    for v in 0..N {
+        first[v + 1] += first[v];
     }
-    let mut next = first;
-    let mut ends = [(0, 0); MOST_WIRES];
+    let mut free = first;
+    let mut starts = [(0, 0); MOST_WIRES];
+    let mut next = [0; N];
     for j in 0..core.m {
         let (u, v) = (core.from[j] as usize % N, core.to[j] as usize % N);
         let cost = core.registers[j] as u32 * REGISTER + order.longest[v] - order.longest[u] - core.delay[v];
-        ends[next[u] as usize % MOST_WIRES] = (v as u8, cost);
-        next[u] += 1;
+        starts[free[v] as usize % MOST_WIRES] = (u as u8, cost);
+        free[v] += 1;
+        next[u] |= 1 << v;
     }
-    Leaving { first, ends }
+    Arriving { first, starts, next }
 }
 
-/// Blocks are passed on in order as long as some row has changed, then by Floyd and Warshall if that takes too long.
+/// Blocks are filled in order as long as one that leads to them has changed, and by Floyd and Warshall if that takes too long.
 fn table(core: &Core, order: &Order) -> Table {
     let mut by_end = [[NO_PATH; N]; N];
     for u in 0..core.n {
         by_end[u][u] = 0;
     }
-    let leaving = leaving(core, order);
-    let mut changed: u64 = !0 >> (N - core.n);
+    let arriving = arriving(core, order);
+    let mut open: u64 = !0 >> (N - core.n);
     for _ in 0..12 {
-        for &u in &order.blocks[..core.n] {
-            let u = u as usize % N;
-            if changed >> u & 1 == 0 {
+        for &v in &order.blocks[..core.n] {
+            let v = v as usize % N;
+            if open >> v & 1 == 0 {
                 continue;
             }
-            changed &= !(1 << u);
-            let start = by_end[u];
-            let wires = leaving.first[u] as usize..leaving.first[u + 1] as usize;
-            for &(v, cost) in &leaving.ends[wires] {
-                if relax(&mut by_end[v as usize % N], &start, cost) {
-                    changed |= 1 << v;
+            open &= !(1 << v);
+            let mut end = by_end[v];
+            let mut changed = false;
+            let wires = arriving.first[v] as usize..arriving.first[v + 1] as usize;
+            for four in arriving.starts[wires].chunks(4) {
+                // A wire less than four is its block itself, which changes nothing.
+                let mut starts = [&by_end[v]; 4];
+                let mut costs = [0; 4];
+                for (k, &(u, cost)) in four.iter().enumerate() {
+                    starts[k] = &by_end[u as usize % N];
+                    costs[k] = cost;
                 }
+                changed |= relax_four(&mut end, starts, costs);
+            }
+            if changed {
+                by_end[v] = end;
+                open |= arriving.next[v];
             }
         }
-        if changed == 0 {
+        if open == 0 {
             return Table { by_end };
         }
     }
@@ -277,14 +299,22 @@ fn rules(core: &Core, order: &Order, table: &Table) -> Rules {
     let mut rules = Rules { bound: [[LOOSE; N]; N], delay: [[0; N]; N] };
     for v in 0..core.n {
         let paths = &table.by_end[v];
+        // Registers times REGISTER, less the delay without u; nothing of use where there is no path.
+        let mut plain = [0; N];
         for u in 0..N {
-            // Registers times REGISTER, less the delay without u; nothing of use where there is no path.
-            let plain = paths[u].wrapping_add(order.longest[u]).wrapping_sub(order.longest[v]);
-            let registers = (plain as i32).wrapping_add(REGISTER as i32 - 1) >> 20;
-            let delay = (registers as u32).wrapping_mul(REGISTER).wrapping_sub(plain).wrapping_add(core.delay[u]);
-            let binds = paths[u] < NO_PATH && registers < LOOSE as i32;
-            rules.bound[v][u] = if binds { registers as i16 } else { LOOSE };
-            rules.delay[v][u] = if binds { delay } else { 0 };
+            plain[u] = paths[u].wrapping_add(order.longest[u]).wrapping_sub(order.longest[v]);
+        }
+        let mut registers = [0; N];
+        for u in 0..N {
+            let whole = (plain[u] as i32).wrapping_add(REGISTER as i32 - 1) >> 20;
+            registers[u] = if paths[u] < NO_PATH { whole.min(LOOSE as i32) } else { LOOSE as i32 };
+        }
+        for u in 0..N {
+            rules.bound[v][u] = registers[u] as i16;
+        }
+        for u in 0..N {
+            let delay = (registers[u] as u32).wrapping_mul(REGISTER).wrapping_sub(plain[u]).wrapping_add(core.delay[u]);
+            rules.delay[v][u] = if registers[u] < LOOSE as i32 { delay } else { 0 };
         }
     }
     for j in 0..core.m {
@@ -328,15 +358,71 @@ fn push(lags: &mut Row<i16>, bounds: &Row<i16>, v: usize) -> u64 {
     set
 }
 
-fn below(lags: &Row<i16>, lower: &Row<i16>) -> bool {
-    lags.iter().zip(lower).fold(false, |below, (lag, lower)| below | (lag < lower))
+fn first_below(lags: &Row<i16>, lower: &Row<i16>) -> Option<usize> {
+    let any = lags.iter().zip(lower).fold(0u16, |any, (lag, lower)| any | (lag < lower) as u16);
+    if any == 0 {
+        return None;
+    }
+    (0..N).find(|&b| lags[b] < lower[b])
 }
 
-/// The largest lags that keep all bounds, from lags that are at least as large; false where there are none.
-fn solve(core: &Core, bounds: &[Row<i16>; N], lags: &mut Row<i16>) -> bool {
+const NOBODY: u8 = u8::MAX;
+
+/// Whom each block was last pushed by, at one period.
+struct Pushes<'a> {
+    rules: &'a Rules,
+    c: u32,
+    by: Row<u8>,
+}
+
+impl Pushes<'_> {
+    /// A block on a circle of blocks that push each other for ever, if there is one.
+    fn circle(&self) -> Option<usize> {
+        let mut done = 0u64;
+        for start in 0..N {
+            let (mut here, mut seen) = (start as u8, 0u64);
+            while here != NOBODY && done >> here & 1 == 0 {
+                if seen >> here & 1 == 1 {
+                    return Some(here as usize);
+                }
+                seen |= 1 << here;
+                here = self.by[here as usize % N];
+            }
+            done |= seen;
+        }
+        None
+    }
+
+    /// The least period at which the pushes that led to `last`, once round or from their start, are no contradiction:
+    /// so many of their paths must be quick enough. `slack` is what the pushes have to spare beside their bounds.
+    fn least_period(&self, last: usize, slack: impl Fn(usize) -> i32) -> u32 {
+        let (mut here, mut seen, mut bounds) = (last, 0u64, 0);
+        let mut slow = [0u32; N];
+        let mut count = 0;
+        while self.by[here] != NOBODY && seen >> here & 1 == 0 {
+            seen |= 1 << here;
+            let by = self.by[here] as usize % N;
+            bounds += self.rules.bound[by][here] as i32;
+            if self.rules.delay[by][here] > self.c {
+                slow[count % N] = self.rules.delay[by][here];
+                count += 1;
+            }
+            here = by;
+        }
+        let spare = bounds + slack(here);
+        let slow = &mut slow[..count.min(N)];
+        slow.sort_unstable();
+        // As many slow paths as there is to spare may stay.
+        if spare < 0 { u32::MAX } else { slow[count - 1 - spare as usize] }
+    }
+}
+
+/// Lowers lags as far as the bounds demand: they are then the largest, if those at first were at least as large.
+/// Where there are none, a period below which there are none either.
+fn solve(core: &Core, rules: &Rules, c: u32, bounds: &[Row<i16>; N], lags: &mut Row<i16>) -> Result<(), u32> {
+    let first = *lags;
     let mut changed: u64 = !0 >> (N - core.n);
-    // Whom each block was pushed by: a circle means that the blocks on it push each other for ever.
-    let mut pushed_by = [u8::MAX; N];
+    let mut pushes = Pushes { rules, c, by: [NOBODY; N] };
     for _ in 0..=core.n {
         let mut turn = changed;
         changed = 0;
@@ -344,103 +430,63 @@ fn solve(core: &Core, bounds: &[Row<i16>; N], lags: &mut Row<i16>) -> bool {
             let v = turn.trailing_zeros() as usize;
             turn &= turn - 1;
             let fell = push(lags, &bounds[v], v);
-            changed |= fell;
-            // A block still to come this turn has its newest lag then.
-            changed &= !(1 << v) | fell;
+            // What v handed on counts from here; those that fell and are still to come do so with their newest lag.
+            changed = changed & !(1 << v) | fell;
             let mut marks = fell;
             while marks != 0 {
-                pushed_by[marks.trailing_zeros() as usize] = v as u8;
+                pushes.by[marks.trailing_zeros() as usize] = v as u8;
                 marks &= marks - 1;
             }
         }
-        if below(lags, &core.lower) {
-            return false;
+        if changed == 0 && first_below(lags, &core.lower).is_none() {
+            return Ok(());
         }
-        if changed == 0 {
-            return true;
+        if let Some(b) = pushes.circle() {
+            return Err(pushes.least_period(b, |_| 0));
         }
-        if runs_in_a_circle(&pushed_by) {
-            return false;
+        if let Some(b) = first_below(lags, &core.lower) {
+            return Err(pushes.least_period(b, |start| (first[start] - core.lower[b]) as i32));
         }
     }
-    false
-}
-
-fn runs_in_a_circle(pushed_by: &Row<u8>) -> bool {
-    let mut done = 0u64;
-    for start in 0..N {
-        let (mut here, mut seen) = (start as u8, 0u64);
-        while here != u8::MAX && done >> here & 1 == 0 {
-            if seen >> here & 1 == 1 {
-                return true;
-            }
-            seen |= 1 << here;
-            here = pushed_by[here as usize % N];
-        }
-        done |= seen;
-    }
-    false
+    unreachable!("as many turns as blocks show a circle")
 }
 
 /// The period after moving by permitted lags; no period is below a single block's delay.
 fn moved_period(rules: &Rules, lags: &Row<i16>, slowest: u32) -> u32 {
-    let mut period = slowest;
+    let mut longest = [slowest; N];
     for v in 0..N {
         let lag = lags[v];
+        let mut free = [0u32; N];
         for u in 0..N {
-            let free = rules.bound[v][u] + lag == lags[u];
-            period = period.max(if free { rules.delay[v][u] } else { 0 });
+            free[u] = ((rules.bound[v][u] + lag == lags[u]) as u32).wrapping_neg();
+        }
+        for u in 0..N {
+            longest[u] = longest[u].max(rules.delay[v][u] & free[u]);
         }
     }
-    period
-}
-
-/// Periods below this cannot be met: rules that break a range by themselves, and pairs with one register between them.
-fn least_thinkable(core: &Core, rules: &Rules, lags: &Row<i16>, slowest: u32) -> u32 {
-    let mut least = slowest;
-    for v in 0..core.n {
-        for u in 0..core.n {
-            let out_of_range = lags[v] + rules.bound[v][u] <= core.lower[u];
-            least = least.max(if out_of_range { rules.delay[v][u] } else { 0 });
-        }
-    }
-    for v in 0..core.n {
-        for u in 0..v {
-            let one = rules.bound[v][u] + rules.bound[u][v] == 1;
-            let both = rules.delay[v][u].min(rules.delay[u][v]);
-            least = least.max(if one { both } else { 0 });
-        }
-    }
-    least
+    longest.into_iter().max().unwrap_or(slowest)
 }
 
 /// The least period that permitted lags meet, and the largest such lags.
 fn best_of(core: &Core, order: &Order) -> Result<(u32, Row<i16>), Answer> {
     let rules = rules(core, order, &table(core, order));
     let mut lags = core.upper;
-    if !solve(core, &rules.bound, &mut lags) {
+    if solve(core, &rules, u32::MAX, &rules.bound, &mut lags).is_err() {
         return Err(refused(NONE_PERMITTED, 0));
     }
     let slowest = core.delay.iter().copied().max().unwrap_or(0);
     let mut met = moved_period(&rules, &lags, slowest);
-    let mut least = least_thinkable(core, &rules, &lags, slowest).min(met);
-    // Delays that may still be the answer.
-    let mut open: Vec<u32> = Vec::with_capacity(N * N);
-    open.extend(rules.delay.iter().flatten().filter(|&&d| least <= d && d < met));
-    open.push(least);
+    let mut least = slowest;
     while least < met {
-        // A middle one of the delays left, by their numbers.
-        let goal = least + (met - least) / 2;
-        let c = open.iter().copied().filter(|&d| d >= least && d < met && d <= goal).max();
-        let Some(c) = c.or_else(|| open.iter().copied().filter(|&d| d > goal && d < met).min()) else { break };
+        let c = least + (met - 1 - least) / 2;
         let mut tried = lags;
-        if solve(core, &bounds_at(&rules, c), &mut tried) {
-            lags = tried;
-            met = moved_period(&rules, &lags, slowest);
-        } else {
-            least = c + 1;
+        match solve(core, &rules, c, &bounds_at(&rules, c), &mut tried) {
+            Ok(()) => {
+                lags = tried;
+                met = moved_period(&rules, &lags, slowest);
+            }
+            Err(next) => least = next.max(c + 1),
         }
-        open.retain(|&d| least <= d && d < met);
     }
     Ok((met, lags))
 }
@@ -554,7 +600,7 @@ mod tests {
     fn full_size_sheets() {
         for kind in bench::KINDS {
             let mut rng = Random::new(86);
-            for _ in 0..3 {
+            for _ in 0..2 {
                 sheet_agrees(&(kind.sheet)(&mut rng));
             }
         }
