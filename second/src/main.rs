@@ -21,7 +21,8 @@ use std::process::ExitCode;
 use std::str::FromStr;
 use std::{env, fs, io};
 
-const USAGE: &str = "usage: second cases DIR | second one FILE | second move FILE LAG... | second loop FILE C WORD... | second fast-bench COUNT SEED";
+const USAGE: &str = "usage: second cases DIR | second one FILE | second lags FILE C | second move FILE LAG... \
+                     | second loop FILE C WORD... | second fast-bench COUNT SEED";
 
 fn write_cases(dir: &Path) -> io::Result<()> {
     let (mut input, mut expected) = (Vec::new(), String::new());
@@ -50,6 +51,8 @@ fn ask_one(bytes: &[u8]) {
     if answer.number != 0 {
         return;
     }
+    println!("period: {}", questions::period(bytes).value);
+    ask_best(bytes, n);
     println!("registers/delay, a row for each start, - without a path");
     for u in 0..n {
         let row: Vec<String> = (u * n..u * n + n)
@@ -60,6 +63,27 @@ fn ask_one(bytes: &[u8]) {
             .collect();
         println!("{u:>2}: {}", row.join(" "));
     }
+}
+
+fn show_lags(name: &str, answer: questions::Answer, lags: &[i16]) {
+    match answer.number {
+        0 => println!("{name}: lags {lags:?}"),
+        _ => println!("{name}: {}", show(answer)),
+    }
+}
+
+fn ask_lags(bytes: &[u8], c: u32) {
+    let n = sheet::frame(bytes).map_or(0, |f| f.n);
+    let mut lags = vec![0; n];
+    let answer = questions::lags_at(bytes, c, &mut lags, questions::loop_room(n));
+    show_lags(&format!("at {c}"), answer, &lags);
+}
+
+fn ask_best(bytes: &[u8], n: usize) {
+    let mut lags = vec![0; n];
+    let answer = questions::best(bytes, &mut lags, questions::loop_room(n));
+    let name = if answer.number == 0 { format!("best {}", answer.value) } else { "best".to_string() };
+    show_lags(&name, answer, &lags);
 }
 
 fn show_moved(bytes: &[u8], lags: &[i16]) {
@@ -97,6 +121,12 @@ fn main() -> ExitCode {
                 return bad_usage();
             };
             fs::read(file).map(|bytes| show_moved(&bytes, &lags))
+        }
+        ["lags", file, c] => {
+            let Ok(c) = c.parse() else {
+                return bad_usage();
+            };
+            fs::read(file).map(|bytes| ask_lags(&bytes, c))
         }
         ["loop", file, c, ref words @ ..] => {
             let (Ok(c), Some(words)) = (c.parse(), numbers(words)) else {
