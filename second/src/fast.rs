@@ -184,6 +184,9 @@ const REGISTER: u32 = 1 << 20;
 /// No path, above every path number with at most 2,000 registers; more never bind lags. Two of them can be added.
 const NO_PATH: u32 = (MOST_REGISTERS as u32 + 2) * REGISTER;
 
+/// Passes over the rows before they are closed at once, which costs about as much as that many.
+const MOST_PASSES: usize = 9;
+
 /// Entry v, u: the least path number from u to v. To keep numbers from falling below 0, the longest delay up to u
 /// is taken off and that up to v added: a register-free wire never shortens what leads to its end.
 struct Table {
@@ -237,7 +240,40 @@ fn arriving(core: &Core, order: &Order) -> Arriving {
     Arriving { first, starts, next }
 }
 
-/// Blocks are filled in order as long as one that leads to them has changed, and by Floyd and Warshall if that takes too long.
+/// Row v from the rows at the starts of its wires; whether it changed.
+fn refill(by_end: &mut [Row<u32>; N], wires: &[(u8, u32)], v: usize) -> bool {
+    let mut end = by_end[v];
+    let mut changed = false;
+    for four in wires.chunks(4) {
+        // Where there are less than four, the block itself changes nothing.
+        let mut starts = [&by_end[v]; 4];
+        let mut costs = [0; 4];
+        for (k, &(u, cost)) in four.iter().enumerate() {
+            starts[k] = &by_end[u as usize % N];
+            costs[k] = cost;
+        }
+        changed |= relax_four(&mut end, starts, costs);
+    }
+    if changed {
+        by_end[v] = end;
+    }
+    changed
+}
+
+/// Floyd and Warshall, on rows that hold every wire.
+fn close(by_end: &mut [Row<u32>; N], n: usize) {
+    for k in 0..n {
+        let start = by_end[k];
+        for end in by_end.iter_mut().take(n) {
+            let cost = end[k];
+            if cost < NO_PATH {
+                relax(end, &start, cost);
+            }
+        }
+    }
+}
+
+/// Rows are filled in order as long as one that leads to them has changed, and closed at once if that takes too long.
 fn table(core: &Core, order: &Order) -> Table {
     let mut by_end = [[NO_PATH; N]; N];
     for u in 0..core.n {
@@ -245,28 +281,15 @@ fn table(core: &Core, order: &Order) -> Table {
     }
     let arriving = arriving(core, order);
     let mut open: u64 = !0 >> (N - core.n);
-    for _ in 0..12 {
+    for _ in 0..MOST_PASSES {
         for &v in &order.blocks[..core.n] {
             let v = v as usize % N;
             if open >> v & 1 == 0 {
                 continue;
             }
             open &= !(1 << v);
-            let mut end = by_end[v];
-            let mut changed = false;
             let wires = arriving.first[v] as usize..arriving.first[v + 1] as usize;
-            for four in arriving.starts[wires].chunks(4) {
-                // A wire less than four is its block itself, which changes nothing.
-                let mut starts = [&by_end[v]; 4];
-                let mut costs = [0; 4];
-                for (k, &(u, cost)) in four.iter().enumerate() {
-                    starts[k] = &by_end[u as usize % N];
-                    costs[k] = cost;
-                }
-                changed |= relax_four(&mut end, starts, costs);
-            }
-            if changed {
-                by_end[v] = end;
+            if refill(&mut by_end, &arriving.starts[wires], v) {
                 open |= arriving.next[v];
             }
         }
@@ -274,15 +297,7 @@ fn table(core: &Core, order: &Order) -> Table {
             return Table { by_end };
         }
     }
-    for k in 0..core.n {
-        let start = by_end[k];
-        for end in by_end.iter_mut().take(core.n) {
-            let cost = end[k];
-            if cost < NO_PATH {
-                relax(end, &start, cost);
-            }
-        }
-    }
+    close(&mut by_end, core.n);
     Table { by_end }
 }
 

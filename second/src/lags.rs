@@ -123,6 +123,7 @@ pub fn best(sheet: &Sheet) -> Option<(u32, Vec<i16>)> {
 #[cfg(test)]
 mod tests {
     use super::*;
+    use crate::questions;
     use crate::random::Random;
     use crate::shapes;
     use crate::trial;
@@ -145,6 +146,8 @@ mod tests {
             for c in (0..3).map(|_| rng.between(0, 30) as u32) {
                 let largest = largest_by_trying(&all, c);
                 assert_eq!(largest_at(&sheet, c), largest);
+                let number = questions::lags_at(&sheet.bytes(), c, &mut [0; 4], 24).number;
+                assert_eq!(number, if largest.is_some() { 0 } else if all.is_empty() { 10 } else { 11 });
                 match largest {
                     // The largest lags block by block are a list that meets c itself.
                     Some(lags) => {
