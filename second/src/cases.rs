@@ -2,12 +2,16 @@
 
 mod entries;
 mod frames;
+mod lags;
 mod links;
 mod lists;
 mod loops;
 mod moves;
+mod periods;
+mod refused;
 mod sounds;
 
+use crate::questions::loop_room;
 use crate::random::Random;
 use crate::record::{Case, MOST_ENTRIES};
 use crate::sheet::Sheet;
@@ -73,6 +77,34 @@ impl Book {
         self.cases.push(Case::a_loop(sheet.to_vec(), c, words));
     }
 
+    fn period(&mut self, sheet: &[u8]) {
+        self.cases.push(Case::period(sheet.to_vec()));
+    }
+
+    /// Lengths that suit the lag questions, sometimes a little longer.
+    fn lag_room(&mut self, n: usize) -> (usize, usize) {
+        let mut more = || if self.rng.chance(30) { self.rng.below(4) } else { 0 };
+        (n + more(), loop_room(n) + more())
+    }
+
+    fn lags_at(&mut self, sheet: &Sheet, c: u32) {
+        let (a, b) = self.lag_room(sheet.n());
+        self.lags_lent(&sheet.bytes(), c, a, b);
+    }
+
+    fn lags_lent(&mut self, sheet: &[u8], c: u32, a: usize, b: usize) {
+        self.cases.push(Case::lags_at(sheet.to_vec(), c, a, b));
+    }
+
+    fn best(&mut self, sheet: &Sheet) {
+        let (a, b) = self.lag_room(sheet.n());
+        self.best_lent(&sheet.bytes(), a, b);
+    }
+
+    fn best_lent(&mut self, sheet: &[u8], a: usize, b: usize) {
+        self.cases.push(Case::best(sheet.to_vec(), a, b));
+    }
+
     /// Check or path table, for kinds with many sheets.
     fn either(&mut self, sheet: &[u8]) {
         if self.rng.chance(50) {
@@ -85,8 +117,17 @@ impl Book {
 
 pub fn all() -> Vec<Case> {
     let mut book = Book { cases: Vec::new(), rng: Random::new(1) };
-    let kinds: [fn(&mut Book, &mut Random); 7] =
-        [frames::cases, entries::cases, lists::cases, loops::cases, sounds::cases, moves::cases, links::cases];
+    let kinds: [fn(&mut Book, &mut Random); 9] = [
+        frames::cases,
+        entries::cases,
+        lists::cases,
+        loops::cases,
+        sounds::cases,
+        moves::cases,
+        links::cases,
+        periods::cases,
+        lags::cases,
+    ];
     for (i, kind) in kinds.iter().enumerate() {
         book.rng = Random::new(1_000 + i as u64);
         kind(&mut book, &mut Random::new(2_000 + i as u64));
@@ -113,13 +154,16 @@ mod tests {
             size += bytes.len();
             seen[case.question as usize][case.expect(&mut text).number as usize] += 1;
         }
-        assert!(size <= 1_000_000);
-        assert!(text.len() <= 2_000_000);
+        assert!(size <= 2_000_000);
+        assert!(text.len() <= 3_000_000);
         assert!(!text.contains("changed"));
         // No answer can look like an untouched entry.
         assert!(!text.contains(&format!(" {BEFORE} ")));
         for number in [0, 1, 2, 3, 5, 6, 7] {
             assert!(seen[1][number] >= 30, "check answers {number}");
+        }
+        for number in [0, 1, 2, 3, 5, 6, 7] {
+            assert!(seen[2][number] >= 4, "period answers {number}");
         }
         for number in 0..8 {
             assert!(seen[3][number] >= 30, "table answers {number}");
@@ -127,9 +171,16 @@ mod tests {
         for number in 0..10 {
             assert!(seen[4][number] >= 8, "move answers {number}");
         }
+        for number in [0, 1, 2, 3, 4, 5, 6, 7, 10, 11] {
+            assert!(seen[5][number] >= 8, "lags at a period answers {number}");
+        }
+        for number in [0, 1, 2, 3, 4, 5, 6, 7, 10] {
+            assert!(seen[6][number] >= 8, "best answers {number}");
+        }
         for number in [0, 1, 2, 3, 5, 6, 7, 12] {
             assert!(seen[7][number] >= 4, "the loop check answers {number}");
         }
-        assert_eq!((seen[1][4], seen[7][4]), (0, 0));
+        assert_eq!((seen[1][4], seen[2][4], seen[7][4]), (0, 0, 0));
+        assert_eq!(seen[6][11], 0);
     }
 }

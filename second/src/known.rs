@@ -56,6 +56,14 @@ pub fn ring_limited(one: (i16, i16), three: (i16, i16)) -> Sheet {
     s
 }
 
+/// Its ranges force a move that joins the two blocks: period 4 as it stands, best 7.
+pub fn forced_ring() -> Sheet {
+    let mut s = sheet(&[0, 3, 4], &[(0, 1, 1), (1, 2, 1), (2, 0, 1)]);
+    (s.blocks[1].lower, s.blocks[1].upper) = (1, 1);
+    (s.blocks[2].lower, s.blocks[2].upper) = (0, 0);
+    s
+}
+
 /// The direct wire has more registers but less delay than the way around.
 pub fn detour() -> Sheet {
     sheet(&[0, 2, 9, 1], &[(0, 1, 1), (1, 2, 1), (2, 3, 1), (1, 3, 0), (3, 0, 1)])

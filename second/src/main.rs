@@ -1,7 +1,10 @@
 //! The second program: `second cases DIR` writes the cases and expected answers, the other commands ask one sheet.
 
+mod bench;
 mod cases;
+mod fast;
 mod known;
+mod lags;
 mod links;
 mod paths;
 mod questions;
@@ -10,13 +13,16 @@ mod record;
 mod refute;
 mod shapes;
 mod sheet;
+#[cfg(test)]
+mod trial;
 
 use std::path::Path;
 use std::process::ExitCode;
 use std::str::FromStr;
 use std::{env, fs, io};
 
-const USAGE: &str = "usage: second cases DIR | second one FILE | second move FILE LAG... | second loop FILE C WORD...";
+const USAGE: &str = "usage: second cases DIR | second one FILE | second lags FILE C | second move FILE LAG... \
+                     | second loop FILE C WORD... | second fast-bench COUNT SEED";
 
 fn write_cases(dir: &Path) -> io::Result<()> {
     let (mut input, mut expected) = (Vec::new(), String::new());
@@ -45,6 +51,8 @@ fn ask_one(bytes: &[u8]) {
     if answer.number != 0 {
         return;
     }
+    println!("period: {}", questions::period(bytes).value);
+    ask_best(bytes, n);
     println!("registers/delay, a row for each start, - without a path");
     for u in 0..n {
         let row: Vec<String> = (u * n..u * n + n)
@@ -55,6 +63,27 @@ fn ask_one(bytes: &[u8]) {
             .collect();
         println!("{u:>2}: {}", row.join(" "));
     }
+}
+
+fn show_lags(name: &str, answer: questions::Answer, lags: &[i16]) {
+    match answer.number {
+        0 => println!("{name}: lags {lags:?}"),
+        _ => println!("{name}: {}", show(answer)),
+    }
+}
+
+fn ask_lags(bytes: &[u8], c: u32) {
+    let n = sheet::frame(bytes).map_or(0, |f| f.n);
+    let mut lags = vec![0; n];
+    let answer = questions::lags_at(bytes, c, &mut lags, questions::loop_room(n));
+    show_lags(&format!("at {c}"), answer, &lags);
+}
+
+fn ask_best(bytes: &[u8], n: usize) {
+    let mut lags = vec![0; n];
+    let answer = questions::best(bytes, &mut lags, questions::loop_room(n));
+    let name = if answer.number == 0 { format!("best {}", answer.value) } else { "best".to_string() };
+    show_lags(&name, answer, &lags);
 }
 
 fn show_moved(bytes: &[u8], lags: &[i16]) {
@@ -93,12 +122,25 @@ fn main() -> ExitCode {
             };
             fs::read(file).map(|bytes| show_moved(&bytes, &lags))
         }
+        ["lags", file, c] => {
+            let Ok(c) = c.parse() else {
+                return bad_usage();
+            };
+            fs::read(file).map(|bytes| ask_lags(&bytes, c))
+        }
         ["loop", file, c, ref words @ ..] => {
             let (Ok(c), Some(words)) = (c.parse(), numbers(words)) else {
                 return bad_usage();
             };
             fs::read(file).map(|bytes| println!("loop: {}", show(questions::check_loop(&bytes, c, &words))))
         }
+        ["fast-bench", count, seed] => match (count.parse(), seed.parse()) {
+            (Ok(count @ 1..), Ok(seed)) => {
+                bench::run(count, seed);
+                Ok(())
+            }
+            _ => return bad_usage(),
+        },
         _ => return bad_usage(),
     };
     match outcome {

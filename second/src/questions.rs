@@ -1,12 +1,16 @@
 //! The questions: each gives number, place and value and leaves its lists as the scope says.
 
+use crate::lags;
 use crate::links;
 use crate::paths;
 use crate::sheet::{self, refusal, Refusal, Sheet, MOST_REGISTERS};
 
 pub const CHECK: u8 = 1;
+pub const PERIOD: u8 = 2;
 pub const TABLE: u8 = 3;
 pub const MOVE: u8 = 4;
+pub const LAGS: u8 = 5;
+pub const BEST: u8 = 6;
 pub const LOOP: u8 = 7;
 
 #[derive(Clone, Copy, Debug, PartialEq, Eq)]
@@ -103,6 +107,47 @@ pub fn move_sheet(bytes: &[u8], lags: &[i16], out: &mut [u8]) -> Answer {
         }
         Err(r) => r.into(),
     }
+}
+
+pub const NONE_PERMITTED: u32 = 10;
+pub const NONE_MEETS: u32 = 11;
+
+/// The words that a loop list must have room for.
+pub fn loop_room(n: usize) -> usize {
+    n * (n + 2)
+}
+
+/// What a lag question answers: with 0 the lags are written. Which loop comes with 10 or 11 is free,
+/// so that no loop is written here and the value, its word count, is left at 0.
+fn answer_with_lags(found: Result<(u32, Vec<i16>), Refusal>, lags: &mut [i16]) -> Answer {
+    match found {
+        Ok((value, largest)) => {
+            lags[..largest.len()].copy_from_slice(&largest);
+            Answer { value, ..DONE }
+        }
+        Err(r) => r.into(),
+    }
+}
+
+fn sound_for_lags(bytes: &[u8], lags: usize, words: usize) -> Result<Sheet, Refusal> {
+    sound_sheet(bytes, &[(lags, |f| f.n), (words, |f| loop_room(f.n))])
+}
+
+/// The largest permitted lags that meet c; of the loop list only the length counts.
+pub fn lags_at(bytes: &[u8], c: u32, lags: &mut [i16], words: usize) -> Answer {
+    let found = sound_for_lags(bytes, lags.len(), words).and_then(|sheet| match lags::largest_at(&sheet, c) {
+        Some(largest) => Ok((0, largest)),
+        None if lags::largest_permitted(&sheet).is_none() => Err(refusal(NONE_PERMITTED, 0)),
+        None => Err(refusal(NONE_MEETS, 0)),
+    });
+    answer_with_lags(found, lags)
+}
+
+/// The least period met by permitted lags, and the largest lags that meet it.
+pub fn best(bytes: &[u8], lags: &mut [i16], words: usize) -> Answer {
+    let found = sound_for_lags(bytes, lags.len(), words)
+        .and_then(|sheet| lags::best(&sheet).ok_or(refusal(NONE_PERMITTED, 0)));
+    answer_with_lags(found, lags)
 }
 
 /// Whether these words are a valid loop at period c; c counts for paths only.
@@ -291,5 +336,113 @@ mod tests {
             assert_eq!(check_loop(&[], 0, words), answer(1, 0));
             s = known::ring_limited((1, 1), (-2, 0));
         }
+    }
+
+    fn lags_of(sheet: &Sheet, c: u32) -> Result<Vec<i16>, Answer> {
+        let mut lags = vec![0; sheet.n()];
+        match lags_at(&sheet.bytes(), c, &mut lags, loop_room(sheet.n())) {
+            DONE => Ok(lags),
+            refused => Err(refused),
+        }
+    }
+
+    fn best_of(sheet: &Sheet) -> Result<(u32, Vec<i16>), Answer> {
+        let mut lags = vec![0; sheet.n()];
+        match best(&sheet.bytes(), &mut lags, loop_room(sheet.n())) {
+            Answer { number: 0, place: 0, value } => Ok((value, lags)),
+            refused => Err(refused),
+        }
+    }
+
+    #[test]
+    fn lags_of_the_ring() {
+        let ring = known::ring();
+        assert_eq!(best_of(&ring), Ok((7, vec![0, 0, 0, 1])));
+        for c in 0..7 {
+            assert_eq!(lags_of(&ring, c), Err(answer(11, 0)));
+        }
+        for c in [7, 8] {
+            assert_eq!(lags_of(&ring, c), Ok(vec![0, 0, 0, 1]));
+        }
+        for c in [9, 10, 11] {
+            assert_eq!(lags_of(&ring, c), Ok(vec![0, 0, 1, 1]));
+        }
+        for c in [12, 13, u32::MAX] {
+            assert_eq!(lags_of(&ring, c), Ok(vec![0, 1, 1, 1]));
+        }
+        // Smaller lags meet 7 too.
+        assert_eq!(after(&ring, &[0, -1, -1, 0]).map(|s| paths::period(&s)), Ok(7));
+    }
+
+    #[test]
+    fn lags_of_the_limited_ring() {
+        assert_eq!(best_of(&known::ring_limited((0, 2), (-2, 0))), Ok((12, vec![0; 4])));
+        let none = known::ring_limited((1, 1), (-2, 0));
+        assert_eq!(best_of(&none), Err(answer(10, 0)));
+        for c in [0, 6, 12, u32::MAX] {
+            assert_eq!(lags_of(&none, c), Err(answer(10, 0)));
+        }
+    }
+
+    #[test]
+    fn lags_of_small_sheets() {
+        assert_eq!(best_of(&known::host_alone()), Ok((0, vec![0])));
+        assert_eq!(lags_of(&known::host_alone(), 0), Ok(vec![0]));
+        assert_eq!(best_of(&known::sheet(&[0, 4], &[])), Ok((4, vec![0, 2])));
+        assert_eq!(lags_of(&known::sheet(&[0, 4], &[]), 3), Err(answer(11, 0)));
+        assert_eq!(best_of(&known::parallel_pair()), Ok((0, vec![0, 0])));
+    }
+
+    #[test]
+    fn lags_of_the_correlator() {
+        let mut sheet = known::correlator();
+        for b in &mut sheet.blocks[1..] {
+            (b.lower, b.upper) = (-500, 500);
+        }
+        assert_eq!(period(&sheet.bytes()), Answer { value: 24, ..DONE });
+        let (least, lags) = best_of(&sheet).expect("0 is permitted");
+        assert_eq!(least, 13);
+        assert_eq!(after(&sheet, &lags).map(|s| paths::period(&s)), Ok(13));
+    }
+
+    #[test]
+    fn the_best_period_can_exceed_the_present_one() {
+        let sheet = known::forced_ring();
+        assert_eq!(period(&sheet.bytes()), Answer { value: 4, ..DONE });
+        assert_eq!(best_of(&sheet), Ok((7, vec![0, 1, 0])));
+        assert_eq!(lags_of(&sheet, 6), Err(answer(11, 0)));
+    }
+
+    #[test]
+    fn lists_of_the_lag_questions() {
+        let mut s = known::ring();
+        let ask = |bytes: &[u8], a: usize, b: usize| {
+            let (mut first, mut second) = (vec![9; a], vec![9; a]);
+            let answers = [lags_at(bytes, 12, &mut first, b), best(bytes, &mut second, b)];
+            assert_eq!(answers[0].number, answers[1].number);
+            assert_eq!(answers[0].place, answers[1].place);
+            if answers[0].number != 0 {
+                assert!(first.iter().chain(&second).all(|&lag| lag == 9));
+            } else {
+                assert!(first[4..].iter().chain(&second[4..]).all(|&lag| lag == 9));
+            }
+            (answers[0].number, answers[0].place)
+        };
+        assert_eq!(ask(&s.bytes(), 4, 24), (0, 0));
+        assert_eq!(ask(&s.bytes(), 6, 30), (0, 0));
+        assert_eq!(ask(&s.bytes(), 3, 24), (4, 0));
+        assert_eq!(ask(&s.bytes(), 4, 23), (4, 1));
+        assert_eq!(ask(&s.bytes(), 3, 23), (4, 0));
+        s.wires[0].registers = 0;
+        s.wires[3].registers = 0;
+        assert_eq!(ask(&s.bytes(), 4, 24), (7, 0));
+        s.wires[2].spare = 1;
+        assert_eq!(ask(&s.bytes(), 4, 24), (6, 2));
+        s.blocks[3].delay = 10_001;
+        assert_eq!(ask(&s.bytes(), 4, 24), (5, 3));
+        assert_eq!(ask(&s.bytes(), 4, 23), (4, 1));
+        assert_eq!(ask(&s.bytes()[..79], 0, 0), (3, 0));
+        assert_eq!(ask(&[0; 16], 0, 0), (2, 0));
+        assert_eq!(ask(&[], 0, 0), (1, 0));
     }
 }

@@ -1,13 +1,13 @@
 //! One case: its bytes in the case file and its lines in the expected output.
 
-use crate::questions::{self, Answer, CHECK, LOOP, MOVE, TABLE};
+use crate::questions::{self, Answer, BEST, CHECK, LAGS, LOOP, MOVE, NONE_MEETS, NONE_PERMITTED, PERIOD, TABLE};
 use crate::sheet;
 use std::fmt::{Display, Write};
 
 /// What entry i of a lent list of u32 holds before the call, less i.
 pub const BEFORE: u32 = 3_000_000_000;
 pub const MOST_ENTRIES: usize = 4_200;
-/// Lags or words that a record gives.
+/// Lags or words that a record gives, or that the lag questions are lent.
 pub const MOST_GIVEN: usize = 4_300;
 
 #[derive(Clone, Debug, PartialEq, Eq, Hash)]
@@ -32,6 +32,11 @@ fn unchanged_from(list: &[u32], first: usize) -> bool {
 /// What byte i of a lent sheet holds before the call.
 fn byte_before(i: usize) -> u8 {
     ((7 * i + 3) % 256) as u8
+}
+
+/// What lag i of a lent list holds before the call: a lag that no range has.
+fn lag_before(i: usize) -> i16 {
+    (20_000 + i) as i16
 }
 
 fn head(out: &mut String, question: u8, answer: Answer) {
@@ -71,6 +76,19 @@ impl Case {
         Case { question: LOOP, sheet, a: words.len(), b: 0, c, given: words.to_vec() }
     }
 
+    pub fn period(sheet: Vec<u8>) -> Case {
+        Case { question: PERIOD, ..Case::check(sheet) }
+    }
+
+    pub fn lags_at(sheet: Vec<u8>, c: u32, a: usize, b: usize) -> Case {
+        assert!(a <= MOST_GIVEN && b <= MOST_GIVEN);
+        Case { question: LAGS, sheet, a, b, c, given: Vec::new() }
+    }
+
+    pub fn best(sheet: Vec<u8>, a: usize, b: usize) -> Case {
+        Case { question: BEST, ..Case::lags_at(sheet, 0, a, b) }
+    }
+
     pub fn write(&self, out: &mut Vec<u8>) {
         let length = u16::try_from(self.sheet.len()).expect("a sheet's length fits 16 bits");
         out.extend([self.question, 0]);
@@ -82,6 +100,31 @@ impl Case {
         for word in &self.given {
             out.extend(word.to_le_bytes());
         }
+    }
+
+    /// A lag question's lines: its lags where there are any; the loop that comes with 10 or 11 is only ever judged.
+    fn expect_lags(&self, out: &mut String) -> Answer {
+        let mut lags: Vec<i16> = (0..self.a).map(lag_before).collect();
+        let answer = match self.question {
+            LAGS => questions::lags_at(&self.sheet, self.c, &mut lags, self.b),
+            _ => questions::best(&self.sheet, &mut lags, self.b),
+        };
+        let mut written = 0;
+        match answer.number {
+            NONE_PERMITTED | NONE_MEETS => {
+                // The word count stays out, since which loop is free.
+                writeln!(out, "{} {} {}", self.question, answer.number, answer.place).unwrap();
+                out.push_str("loop yes\n");
+            }
+            0 => {
+                written = sheet::frame(&self.sheet).expect("answer 0 has a frame").n;
+                head(out, self.question, answer);
+                line(out, "lags", &lags[..written]);
+            }
+            _ => head(out, self.question, answer),
+        }
+        last_line(out, (written..self.a).all(|i| lags[i] == lag_before(i)));
+        answer
     }
 
     /// Asks the question and appends the expected lines.
@@ -120,6 +163,12 @@ impl Case {
                 last_line(out, (written..self.b).all(|i| moved[i] == byte_before(i)));
                 answer
             }
+            PERIOD => {
+                let answer = questions::period(&self.sheet);
+                head(out, PERIOD, answer);
+                answer
+            }
+            LAGS | BEST => self.expect_lags(out),
             LOOP => {
                 let answer = questions::check_loop(&self.sheet, self.c, &self.given);
                 head(out, LOOP, answer);
@@ -184,5 +233,24 @@ mod tests {
         case.expect(&mut text);
         Case::a_loop(known::ring().bytes(), 5, &[2, 3, 0]).expect(&mut text);
         assert_eq!(text, "7 0 0 0\n7 12 0 0\n");
+    }
+
+    #[test]
+    fn the_lag_questions_as_records() {
+        let mut bytes = Vec::new();
+        let mut text = String::new();
+        let case = Case::lags_at(known::ring().bytes(), 9, 5, 24);
+        case.write(&mut bytes);
+        assert_eq!(bytes.len(), 12 + 80);
+        assert_eq!(bytes[..12], [5, 0, 80, 0, 5, 0, 24, 0, 9, 0, 0, 0]);
+        case.expect(&mut text);
+        Case::lags_at(known::ring().bytes(), 6, 4, 24).expect(&mut text);
+        Case::lags_at(known::ring().bytes(), 6, 4, 23).expect(&mut text);
+        assert_eq!(text, "5 0 0 0\nlags 0 0 1 1\nkept\n5 11 0\nloop yes\nkept\n5 4 1 0\nkept\n");
+        text.clear();
+        Case::best(known::ring().bytes(), 4, 24).expect(&mut text);
+        Case::best(known::ring_limited((1, 1), (-2, 0)).bytes(), 4, 24).expect(&mut text);
+        Case::period(known::ring().bytes()).expect(&mut text);
+        assert_eq!(text, "6 0 0 7\nlags 0 0 0 1\nkept\n6 10 0\nloop yes\nkept\n2 0 0 12\n");
     }
 }

@@ -141,9 +141,9 @@ mod tests {
     use super::*;
     use crate::known;
     use crate::links;
-    use crate::questions::{move_sheet, period, DONE};
     use crate::random::Random;
     use crate::shapes;
+    use crate::trial;
 
     #[test]
     fn the_ring() {
@@ -173,39 +173,8 @@ mod tests {
         assert!(links::is_valid(&sheet, 12, &words(&found)));
     }
 
-    /// A small sheet with narrow ranges, some without 0.
-    fn narrow(rng: &mut Random) -> Sheet {
-        let (n, m) = (1 + rng.below(4), rng.below(7));
-        let mut sheet = shapes::sound(rng, n, m, 2, 9);
-        for b in &mut sheet.blocks[1..] {
-            b.lower = rng.between(-2, 2) as i16;
-            b.upper = b.lower + rng.below(3) as i16;
-        }
-        if m > 0 && rng.chance(40) {
-            let near = rng.between(1_997, 2_000) as u16;
-            sheet.wires[rng.below(m)].registers = near;
-        }
-        sheet
-    }
-
-    /// The periods of all permitted moves, by trying every lag list.
     fn periods_by_trying(sheet: &Sheet) -> Vec<u32> {
-        let bytes = sheet.bytes();
-        let mut lags: Vec<i16> = sheet.blocks.iter().map(|b| b.lower).collect();
-        let mut periods = Vec::new();
-        loop {
-            let mut out = vec![0; bytes.len()];
-            if move_sheet(&bytes, &lags, &mut out) == DONE {
-                periods.push(period(&out).value);
-            }
-            let Some(at) = (0..lags.len()).find(|&i| lags[i] < sheet.blocks[i].upper) else {
-                return periods;
-            };
-            lags[at] += 1;
-            for (lag, b) in lags.iter_mut().zip(&sheet.blocks).take(at) {
-                *lag = b.lower;
-            }
-        }
+        trial::permitted(sheet).into_iter().map(|(_, period)| period).collect()
     }
 
     #[test]
@@ -213,7 +182,7 @@ mod tests {
         let mut rng = Random::new(81);
         let (mut with, mut without) = (0, 0);
         for _ in 0..1_500 {
-            let sheet = narrow(&mut rng);
+            let sheet = trial::narrow(&mut rng);
             let periods = periods_by_trying(&sheet);
             let c = rng.between(0, 30) as u32;
             for (c, none) in [(Some(c), periods.iter().all(|&p| p > c)), (None, periods.is_empty())] {
@@ -235,7 +204,7 @@ mod tests {
         let mut rng = Random::new(82);
         let mut accepted = 0;
         for _ in 0..3_000 {
-            let sheet = narrow(&mut rng);
+            let sheet = trial::narrow(&mut rng);
             let periods = periods_by_trying(&sheet);
             for _ in 0..60 {
                 let c = rng.between(0, 20) as u32;

@@ -1,32 +1,27 @@
 // The questions: for each a function that asks it and writes its lines, and a branch in `question`.
 ghost use Prim.Native.Nat.{_≤_};
 ghost use lib.ListN.{length};
-use crate::given::lags;
-use crate::given::words;
-use crate::lent::kept;
-use crate::lent::kept_bytes;
-use crate::lent::marked;
-use crate::lent::marked_bytes;
-use crate::out::byte;
-use crate::out::bytes;
-use crate::out::list;
-use crate::out::next_number;
-use crate::out::number;
-use crate::out::text;
-use sheet::answer::Answer;
-
-// The line that every question begins with.
-fn head(out: &mut [u8; 4096], used: &mut usize, code: u32, answer: Answer) {
-    number(out, used, code);
-    next_number(out, used, answer.number);
-    next_number(out, used, answer.place);
-    next_number(out, used, answer.value);
-    byte(out, used, b'\n');
-}
+use crate::solve::best;
+use crate::solve::lags_at;
+use records::given::lags;
+use records::given::words;
+use records::lent::kept;
+use records::lent::kept_bytes;
+use records::lent::marked;
+use records::lent::marked_bytes;
+use records::out::bytes;
+use records::out::head;
+use records::out::list;
+use records::out::text;
 
 fn check(out: &mut [u8; 4096], used: &mut usize, sheet: &[u8]) {
     let answer = paths::check(sheet);
     head(out, used, 1, answer);
+}
+
+fn period(out: &mut [u8; 4096], used: &mut usize, sheet: &[u8]) {
+    let answer = periods::period(sheet);
+    head(out, used, 2, answer);
 }
 
 // How many entries of a list of `length` a table takes: n², and never more than there are.
@@ -163,12 +158,24 @@ pub fn question(
         check(out, used, sheet);
         return true;
     }
+    if code == 2 {
+        period(out, used, sheet);
+        return true;
+    }
     if code == 3 {
         table(out, used, sheet, a, b);
         return true;
     }
     if code == 4 {
         move_by(out, used, sheet, more, a, b);
+        return true;
+    }
+    if code == 5 {
+        lags_at(out, used, sheet, a, b, c);
+        return true;
+    }
+    if code == 6 {
+        best(out, used, sheet, a, b);
         return true;
     }
     if code == 7 {

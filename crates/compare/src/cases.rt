@@ -2,8 +2,8 @@
 ghost use Prim.Native.Nat.{_≤_};
 ghost use lib.ListN.{length};
 use crate::ask::question;
-use crate::out::flush;
-use crate::out::text;
+use records::out::flush;
+use records::out::text;
 use sheet::bytes::u16_at;
 use sheet::bytes::u32_at;
 

@@ -46,3 +46,13 @@ pub fn period(sheet: &[u8]) -> Answer
     }
     done(longest_free(&registers, &delays))
 }
+
+// Stands in until the question is proved.
+pub fn lags_at(sheet: &[u8], c: u32, lags: &mut [i16], words: &mut [u16]) -> Answer {
+    done(0)
+}
+
+// Stands in until the question is proved.
+pub fn best(sheet: &[u8], lags: &mut [i16], words: &mut [u16]) -> Answer {
+    done(0)
+}

@@ -79,7 +79,7 @@ fn goal(rng: &mut Random, n: usize, most: u16) -> Sheet {
 }
 
 /// A sheet and permitted lags up to `reach` that move it to a goal; wires that would need too many registers are left out.
-fn permitted_pair(rng: &mut Random, n: usize, reach: i64, most: u16) -> (Sheet, Vec<i16>) {
+pub fn permitted_pair(rng: &mut Random, n: usize, reach: i64, most: u16) -> (Sheet, Vec<i16>) {
     let mut sheet = goal(rng, n, most);
     let n = sheet.n();
     let mut lags: Vec<i16> = (0..n).map(|_| rng.between(-reach, reach) as i16).collect();

@@ -63,7 +63,7 @@ fn scope_lines(book: &mut Book) {
 }
 
 /// One sheet of each shape with n blocks and these limits.
-fn shapes_of(rng: &mut Random, n: usize, most: u16, delay: u32) -> Vec<Sheet> {
+pub fn shapes_of(rng: &mut Random, n: usize, most: u16, delay: u32) -> Vec<Sheet> {
     let closing = rng.below(n);
     let width = 1 + rng.below(n.min(3));
     let more = rng.below(2 * n + 1);
