@@ -3,6 +3,10 @@ pub mod Rules
 pub mod Period
 pub mod Lags
 pub mod Search
+pub mod Small
+pub mod Solved
+pub mod Loops
+pub mod Load
 pub mod Asked
 pub mod Theorems
 pub mod Delivered
