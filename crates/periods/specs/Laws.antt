@@ -5,9 +5,10 @@ pub mod Lags
 pub mod Search
 pub mod Small
 pub mod Solved
-pub mod Loops
 pub mod Load
 pub mod Asked
+pub mod Loops
+pub mod Solving
 pub mod Theorems
 pub mod Delivered
 pub mod Routes

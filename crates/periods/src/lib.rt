@@ -7,7 +7,8 @@ use paths::path_table;
 use sheet::answer::Answer;
 use sheet::answer::done;
 
-mod load; // the lists of the solver
+mod lags; // lags at a period
+mod load; // the lists of the solver, and the lags that it found
 
 // The longer delay, where d counts only with 0 registers.
 fn longer(w: u32, d: u32, best: u32) -> u32

@@ -17,7 +17,6 @@ use Rattle.sheet.specs.Laws.Formed.{formed-core}
 use Rattle.paths.specs.Table.{Best, Entry, best, none}
 use Rattle.paths.specs.Laws.Path.{joins-start-lt, joins-end-lt}
 use Rattle.paths.specs.Laws.Entry.{entry-unique}
-use Rattle.paths.specs.Laws.Questions.{sound-core}
 use Rattle.moves.specs.Lags.{movedBy, InRange, Fits, Permitted, MovedTo, Meets}
 use Rattle.moves.specs.Laws.Lattice.{value}
 use Rattle.moves.specs.Laws.Written.{lag-fits}
@@ -28,7 +27,6 @@ use Rattle.witness.specs.Stands.{Stands}
 use Rattle.periods.specs.Lags.{Largest}
 use Rattle.periods.specs.Rules.{Keeps}
 use Rattle.periods.specs.Laws.Rules.{meets-keeps, keeps-meets}
-use Rattle.periods.specs.Laws.Small.{best-quick}
 
 module _ {s : List ℕ} {g : Given} (S : Stands s g) where
   formed : Formed (coreOf s)
@@ -199,10 +197,6 @@ module _ {s : List ℕ} {g : Given} (S : Stands s g) where
     ceilings-is = S .ceilings-is;
     table = S .table;
   }
-
-  -- no path is slower than the longest period
-  pub no-slow : (u v W D : ℕ) → Best (shapeOf s) (registersIn s) u v W D → 4294967295 < D → ⊥
-  no-slow u v W D b l = omega (arith, best-quick (coreOf s) (sound-core s (S .sound)) u v W D b)
 
 -- ---- largest lags are largest in whatever list they stand
 module _ (c : Core) (f : Formed c) (p : ℕ) (r q : ℕ → ℤ) (same : (b : ℕ) → b < c .shape .n → r b ≡ q b) where
