@@ -5,3 +5,4 @@ pub mod Link
 pub mod Asked
 pub mod Linked
 pub mod Walked
+pub mod Plain

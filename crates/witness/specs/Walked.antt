@@ -11,7 +11,8 @@ use Rattle.paths.specs.Table.{Best}
 use Rattle.paths.specs.Laws.Pigeons.{NotIn, NoDup}
 use Rattle.loops.specs.Link.{Link, allWords, linkA, Chain, sumK, NoPath}
 use Rattle.solver.specs.System.{Given}
-use Rattle.solver.specs.Walk.{iter}
+use Rattle.solver.specs.Walk.{Rooted, iter}
+use Rattle.solver.specs.Laws.Walk.{Walking}
 use Rattle.solver.specs.State.{State, Stuck}
 use Rattle.witness.specs.Stands.{Stands}
 
@@ -30,6 +31,14 @@ pub record Ends (par : List ℕ) (a b start : ℕ) : Type 0 where
   pub there : iter par steps b ≡ start
   pub past : (j : ℕ) → j < steps → (iter par j b ≡ a → ⊥) × (iter par j b ≡ 0 → ⊥)
   pub host : (start ≡ a → ⊥) → start ≡ 0
+
+-- the walk from b is at v, and has not met a
+pub record OnWalk (par : List ℕ) (a b v : ℕ) : Type 0 where
+  pub n : ℕ
+  pub k : ℕ
+  pub few : n ≤ 64
+  pub rooted : Rooted n par
+  pub walking : Walking n par a b v k
 
 -- how far the walk from v is from the host, if not beyond `most`
 abbrev pub far : ℕ → List ℕ → ℕ → ℕ

@@ -6,7 +6,7 @@ use mathlib.Core.List.{List, [], _∷_, _++_, map}
 use Prim.Native.Nat.{ℕ, zero, suc, _+_, _*_, _≤_, _<_}
 use native.Mathlib.Omega.{arith}
 use native.Mathlib.Decide.{ℕ-discrete, decLt}
-use native.Mathlib.Nat.{mul-le-mul}
+use native.Mathlib.Nat.{mul-le-mul, mul-le-mul-right}
 use lib.IntN.{ℤ, negℤ}
 use lib.ListN.{length, getD, take, length-take}
 use lib.Seq.{sets, length-take-le}
@@ -21,10 +21,10 @@ use Rattle.loops.specs.Link.{Link, lower, allWords, linkA, sumK, ValidLoop}
 use Rattle.loops.specs.Laws.Chain.{parts-negative}
 use Rattle.solver.specs.System.{Given}
 use Rattle.solver.specs.Walk.{Depth, Rooted, iter, Hit}
-use Rattle.solver.specs.Laws.Walk.{iter-in, short, distinct, Walking}
+use Rattle.solver.specs.Laws.Walk.{iter-in, short, distinct, walk-start, walk-step}
 use Rattle.witness.specs.Trace.{Tabled}
 use Rattle.witness.specs.Written.{Asked, for-upper, for-path, for-wire, for-ceiling, LinkWritten, LoopWritten}
-use Rattle.witness.specs.Walked.{Halted, Ends, far, NoneSlow, Linked, Walked, Begun, Underway}
+use Rattle.witness.specs.Walked.{Halted, Ends, OnWalk, far, NoneSlow, Linked, Walked, Begun, Underway}
 use Rattle.witness.specs.Laws.Sets.{sets-front, sets-kept}
 use Rattle.witness.specs.Laws.Link.{asked-a, asked-b}
 use Rattle.witness.specs.Laws.Asked.{Bound, rule-asked, link-asked}
@@ -48,11 +48,25 @@ far-less n most par R m v h nz = let q = R .ends v h in go (q .0) (q .1)
         omega (arith, far-depth par most (suc d) v p (omega arith), far-depth par most d (getD par v 0) (p .1) (omega arith))
 
 -- ---- where the walk ends
-pub ends-at : (n : ℕ) (par : List ℕ) (a b k : ℕ) → Walking n par a b a k → Ends par a b a
-ends-at n par a b k W = record { steps = k; there = W .here; past = W .past; host = λ f. absurd (f refl) }
+pub on-start : (par : List ℕ) (a b n : ℕ) → Rooted n par → n ≤ 64 → b < n → OnWalk par a b b
+on-start par a b n R m h = record { n = n; k = 0; few = m; rooted = R; walking = walk-start n par a b R h }
 
-pub ends-host : (n : ℕ) (par : List ℕ) (a b v k : ℕ) → Walking n par a b v k → v ≡ 0 → Ends par a b 0
-ends-host n par a b v k W z = record { steps = k; there = W .here ∙ z; past = W .past; host = λ _. refl }
+module _ (par : List ℕ) (a b v : ℕ) (W : OnWalk par a b v) where
+  pub on-in : v < 64
+  on-in = omega (arith, W .few, W .walking .inside)
+
+  pub on-host : v ≡ 0 → Ends par a b 0
+  on-host z = record { steps = W .k; there = W .walking .here ∙ z; past = W .walking .past; host = λ _. refl }
+
+  pub on-met : v ≡ a → Ends par a b a
+  on-met q = record { steps = W .k; there = W .walking .here ∙ q; past = W .walking .past; host = λ f. absurd (f refl) }
+
+  module _ (nz : v ≡ 0 → ⊥) (v′ : ℕ) (e : v′ ≡ getD par v 0) where
+    pub on-less : far 64 par v′ < far 64 par v
+    on-less = rw e (far-less (W .n) 64 par (W .rooted) (W .few) v (W .walking .inside) nz)
+
+    pub on-next : (v ≡ a → ⊥) → OnWalk par a b v′
+    on-next na = rw e (record { n = W .n; k = W .k + 1; few = W .few; rooted = W .rooted; walking = walk-step (W .rooted) (W .walking) na nz })
 
 -- ---- a link that is asked for is of kind 2 only where a path is too slow
 asked-slow : (c : Core) (p i a b : ℕ) (z : ℤ) → Asked c p i a b z → NoneSlow c p → i ≡ 1 → ⊥
@@ -265,6 +279,44 @@ module _ (s : List ℕ) (n : ℕ) (registers delays par ups : List ℕ) (i a b :
         pub walked-ends : LoopWritten (coreOf s) (g .period) w w′ at
         walked-ends = closes (W .links) (W .linked)
 
+-- ---- before the walk, for whatever the solver stopped at
+module _ (s : List ℕ) (n : ℕ) (registers delays par ups : List ℕ) (i a b : ℕ) (g : Given) (e : List ℕ) (h : Halted s n registers delays par ups i a b g e) where
+  -- the walk may begin
+  pub halted-walk : (m : ℕ) × Rooted m par × (m ≤ 64) × (b < m)
+  halted-walk = (n, rooted s n registers delays par ups i a b g e h, few-blocks s n registers delays par ups i a b g e h, b-in s n registers delays par ups i a b g e h)
+
+  pub halted-room : 2 ≤ n * (n + 2)
+  halted-room = let l : 1 ≤ n = omega (arith, a-in s n registers delays par ups i a b g e h) in omega (arith, mul-le-mul-right (n + 2) l)
+
+  pub halted-a : a < 64
+  halted-a = omega (arith, a-in s n registers delays par ups i a b g e h, few-blocks s n registers delays par ups i a b g e h)
+
+  pub halted-asked : (q : ℕ) × (z : ℤ) × Asked (coreOf s) q i a b z
+  halted-asked = let B = rule-bound s n registers delays par ups i a b g e h in (g .period, B .z, B .asked)
+
+  module _ (start : ℕ) (ends : Ends par a b start) (w w′ : List ℕ) (at : ℕ) (o : Begun start a w w′ at) where
+    pub begun-room : at + (n + 2) ≤ n * (n + 2)
+    begun-room =
+        begins-room s n registers delays par ups i a b g e h start ends w w′ at (begins s n registers delays par ups i a b g e h start ends w w′ at o)
+
+    pub underway-start : (w″ : List ℕ) (r : ℕ) → ((q : ℕ) → (z : ℤ) → Asked (coreOf s) q i a b z → LinkWritten (coreOf s) q i a b z w′ w″ at r)
+        → Underway s n registers delays par ups start (g .period) w w″ r b
+    underway-start w″ r l =
+        let B = rule-bound s n registers delays par ups i a b g e h in
+        record {
+          i = i;
+          a = a;
+          b = b;
+          g = g;
+          e = e;
+          halted = h;
+          period-is = refl;
+          ends = ends;
+          walked =
+              walked-start s n registers delays par ups i a b g e h start ends w w′ at (begins s n registers delays par ups i a b g e h start ends w w′ at o) w″ r
+              (l (g .period) (B .z) (B .asked));
+        }
+
 -- ---- a turn of the walk, for whatever the loop is written for
 module _ (s : List ℕ) (n : ℕ) (registers delays par ups : List ℕ) (start p : ℕ) (w w′ : List ℕ) (at v : ℕ) (U : Underway s n registers delays par ups start p w w′ at v) where
   pub underway-table : Tabled s n registers delays
@@ -281,17 +333,17 @@ module _ (s : List ℕ) (n : ℕ) (registers delays par ups : List ℕ) (start p
   here : v < n
   here = walked-in s n registers delays par ups (U .i) (U .a) (U .b) (U .g) (U .e) (U .halted) start (U .ends) w w′ at v (U .walked)
 
-  pub underway-asked : (q : ℕ) × (z : ℤ) × Asked (coreOf s) q (getD ups v 0) v (getD par v 0) z
-  underway-asked =
+  pub underway-asked : (i b : ℕ) → i ≡ getD ups v 0 → b ≡ getD par v 0 → (q : ℕ) × (z : ℤ) × Asked (coreOf s) q i v b z
+  underway-asked i b x y =
       let B = held-bound s n registers delays par ups (U .i) (U .a) (U .b) (U .g) (U .e) (U .halted) v here in
-      (U .g .period, B .z, B .asked)
+      (U .g .period, B .z, rw (x, y) (B .asked))
 
   module _ (f : v ≡ start → ⊥) where
     pub underway-room : at + (n + 2) ≤ n * (n + 2)
     underway-room = walked-room s n registers delays par ups (U .i) (U .a) (U .b) (U .g) (U .e) (U .halted) start (U .ends) w w′ at v (U .walked) f
 
-    pub underway-less : far 64 par (getD par v 0) < far 64 par v
-    underway-less = walked-less s n registers delays par ups (U .i) (U .a) (U .b) (U .g) (U .e) (U .halted) start (U .ends) w w′ at v (U .walked) f
+    pub underway-less : (v′ : ℕ) → v′ ≡ getD par v 0 → far 64 par v′ < far 64 par v
+    underway-less v′ q = rw q (walked-less s n registers delays par ups (U .i) (U .a) (U .b) (U .g) (U .e) (U .halted) start (U .ends) w w′ at v (U .walked) f)
 
     pub underway-next : (w″ : List ℕ) (r i b v′ : ℕ) → i ≡ getD ups v 0 → b ≡ getD par v 0 → v′ ≡ getD par v 0
         → ((q : ℕ) → (z : ℤ) → Asked (coreOf s) q i v b z → LinkWritten (coreOf s) q i v b z w′ w″ at r)
