@@ -24,6 +24,9 @@ pub record Resting (s : List ℕ) (n m p : ℕ) (lower from to wires ceilings re
   pub rest : AllHold (solving .g) e
 
 -- a run of the solver comes to rest, or a loop was written and the answer counts its words
-abbrev pub Solved : List ℕ → ℕ → ℕ → ℕ → ℕ → List ℕ → List ℕ → List ℕ → List ℕ → List ℕ → List ℕ → List ℕ → List ℕ → List ℕ → List ℕ → List ℕ → List ℕ → Stage → Type 0
-Solved s n m p number lower from to wires ceilings registers delays e par up w w′ Pass = Resting s n m p lower from to wires ceilings registers delays e par up × (w′ ≡ w)
-Solved s n m p number lower from to wires ceilings registers delays e par up w w′ (Refuse a) = (count : ℕ) × (a ≡ answer number 0 count) × LoopWritten (coreOf s) p w w′ count
+abbrev pub Ran : List ℕ → ℕ → ℕ → ℕ → ℕ → List ℕ → List ℕ → List ℕ → List ℕ → List ℕ → List ℕ → List ℕ → List ℕ → List ℕ → List ℕ → List ℕ → List ℕ → Stage → Type 0
+Ran s n m p number lower from to wires ceilings registers delays e par up w w′ Pass = Resting s n m p lower from to wires ceilings registers delays e par up × (w′ ≡ w)
+Ran s n m p number lower from to wires ceilings registers delays e par up w w′ (Refuse a) = (count : ℕ) × (a ≡ answer number 0 count) × LoopWritten (coreOf s) p w w′ count
+
+pub record Solved (s : List ℕ) (n m p number : ℕ) (lower from to wires ceilings registers delays e par up w w′ : List ℕ) (r : Stage) : Type 0 where
+  pub ran : Ran s n m p number lower from to wires ceilings registers delays e par up w w′ r

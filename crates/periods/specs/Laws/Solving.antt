@@ -13,8 +13,10 @@ use Rattle.sheet.specs.Filled.{filled}
 use Rattle.sheet.specs.Rules.{First, answer}
 use Rattle.sheet.specs.Laws.Filled.{length-filled, filled-past, filled-at}
 use Rattle.sheet.specs.Laws.Formed.{formed-core, formed-numbers}
+use Rattle.sheet.specs.declared.answer.Answer.{Answer}
 use Rattle.sheet.specs.declared.answer.Stage.{Stage}
 use Rattle.sheet.specs.declared.answer.Stage.the-variants.{Pass, Refuse}
+use Rattle.paths.specs.Questions.{SoundSheet}
 use Rattle.moves.specs.Lags.{lagsIn, Permitted}
 use Rattle.solver.specs.System.{Given, given, atPeriod}
 use Rattle.solver.specs.State.{State, Lists, Stuck, AllHold, Settled}
@@ -26,10 +28,11 @@ use Rattle.witness.specs.Written.{LoopWritten}
 use Rattle.witness.specs.Walked.{Halted}
 use Rattle.periods.specs.Lags.{Largest}
 use Rattle.periods.specs.Load.{Held}
-use Rattle.periods.specs.Solving.{Solving, Resting, Solved}
+use Rattle.periods.specs.Solving.{Solving, Resting, Ran, Solved}
 use Rattle.periods.specs.Questions.{lagsOutcome, lagsLast}
 use Rattle.periods.specs.Laws.Solved.{rest-largest, stands-at, largest-same}
 use Rattle.periods.specs.Laws.Asked.{lags-done}
+use Rattle.periods.specs.Laws.Loops.{refused-none, refused-slow}
 
 -- ---- how the rounds ended, once the case is known
 module _ (g : Given) (e par up : List ℕ) (r : End) (h : Settled g e par up r) where
@@ -66,6 +69,11 @@ module _ {s lower from to wires ceilings registers delays e₀ par₀ up₀ : Li
         delays-are = sym (S .lists .delays-is);
       }
 
+  -- the loop written from there is one at the period
+  pub loop-written : (i a b : ℕ) → r ≡ E.Stuck i a b → (w w′ : List ℕ) (count : ℕ)
+      → ((g : Given) → (x : List ℕ) → Halted s n registers delays par up i a b g x → LoopWritten (coreOf s) (g .period) w w′ count) → LoopWritten (coreOf s) p w w′ count
+  loop-written i a b q w w′ count f = rw (S .lists .period-is) (f (S .g) e (halts i a b q))
+
 -- the loop's words are few
 pub few-words : {s lower from to wires ceilings registers delays e par up w w′ : List ℕ} {n m p count : ℕ} → Solving s n m p lower from to wires ceilings registers delays e par up
     → LoopWritten (coreOf s) p w w′ count → count ≤ 4224
@@ -73,6 +81,14 @@ few-words {s} S L =
     let few = S .stands .sound .formed .framed .few-blocks in
     let more : blocksIn s + 2 ≤ 66 = omega arith in
     omega (arith, L .few, mul-le-mul few more)
+
+-- what a run gave, once its case is known
+module _ {s lower from to wires ceilings registers delays e par up w w′ : List ℕ} {n m p number : ℕ} {r : Stage} (h : Solved s n m p number lower from to wires ceilings registers delays e par up w w′ r) where
+  pub solved-rests : r ≡ Pass → Resting s n m p lower from to wires ceilings registers delays e par up × (w′ ≡ w)
+  solved-rests q = subst (Ran s n m p number lower from to wires ceilings registers delays e par up w w′) q (h .ran)
+
+  pub solved-refuses : (a : Answer) → r ≡ Refuse a → (count : ℕ) × (a ≡ answer number 0 count) × LoopWritten (coreOf s) p w w′ count
+  solved-refuses a q = subst (Ran s n m p number lower from to wires ceilings registers delays e par up w w′) q (h .ran)
 
 -- ---- where the solver begins: the lists were just loaded, and there are no links
 pub begins : {s lower e from to wires ceilings registers delays par up : List ℕ} {n m : ℕ} → Held s (given n m 4294967295 lower e from to wires ceilings registers delays)
@@ -156,3 +172,20 @@ module _ {s lower from to wires ceilings registers delays e par up : List ℕ} {
           };
           words-kept = q;
         })
+
+-- ---- refusals: the first run finds that no permitted lags exist, a later one that none meets the period
+module _ {s lower from to wires ceilings registers delays e par up w w′ : List ℕ} {n m : ℕ} {r : Stage} (l : List ℤ) (a : Answer) (q : r ≡ Refuse a) where
+  pub first-refuses : (c : ℕ) → SoundSheet s → Solved s n m 4294967295 10 lower from to wires ceilings registers delays e par up w w′ r → First (lagsLast s c l w) (lagsOutcome a l w′)
+  first-refuses c S h = let t = solved-refuses h a q in refused-none s S l w w′ a (t .0) (t .1) (t .2) c
+
+  pub later-refuses : {e₀ par₀ up₀ : List ℕ} {c : ℕ} → Resting s n m 4294967295 lower from to wires ceilings registers delays e₀ par₀ up₀ → Solved s n m c 11 lower from to wires ceilings registers delays e par up w w′ r → First (lagsLast s c l w) (lagsOutcome a l w′)
+  later-refuses {c = c} R h = let t = solved-refuses h a q in refused-slow s (R .solving .stands .sound) l w w′ a (t .0) c (t .1) (t .2) _ (resting-permitted R)
+
+-- a run that came to rest: what the writer of lags needs, and the answer 0 with the lags that it wrote
+module _ {s lower from to wires ceilings registers delays e par up w w′ : List ℕ} {n m p number : ℕ} {r : Stage}
+    (h : Solved s n m p number lower from to wires ceilings registers delays e par up w w′ r) (q : r ≡ Pass) where
+  pub later-writes : (l : List ℤ) → n ≤ length l → (n ≤ 64) × (length e ≡ 64) × (n ≤ length l) × ((b : ℕ) → b < n → getD e b 0 < 65536)
+  later-writes l long = let R = solved-rests h q .0 in (resting-few R, R .solving .state .e-long, long, resting-small R)
+
+  pub later-done : (l l′ : List ℤ) → n ≤ length l → l′ ≡ filled (λ b. lagOf (getD e b 0)) n l → First (lagsLast s p l w) (lagsOutcome (answer 0 0 0) l′ w′)
+  later-done l l′ long f = let R = solved-rests h q in lags-written (R .0) l l′ w w′ long f (R .1)
