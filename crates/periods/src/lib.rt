@@ -1,11 +1,13 @@
-// Periods and lags: the period as it stands. It is answered from what the path table promises.
+// Periods and lags: the period as it stands, and lags at a period. They are answered from what the path table promises.
 ghost use mathlib.Core.Path.{_≡_};
 ghost use lib.ListN.{length};
 ghost use Rattle.periods.specs.Longest.{Longest, Longer};
-ghost use Rattle.periods.specs.Questions.{PeriodRight};
+ghost use Rattle.periods.specs.Questions.{PeriodRight, LagsRight, lagsOutcome};
 use paths::path_table;
 use sheet::answer::Answer;
 use sheet::answer::done;
+use sheet::frame::Frame;
+use sheet::frame::read_frame;
 
 mod lags; // lags at a period
 mod load; // the lists of the solver, and the lags that it found
@@ -48,4 +50,14 @@ pub fn period(sheet: &[u8]) -> Answer
         return a;
     }
     done(longest_free(&registers, &delays))
+}
+
+// Lags at period c: the largest permitted lags that meet it, or a loop that proves that there are none.
+pub fn lags_at(sheet: &[u8], c: u32, lags: &mut [i16], words: &mut [u16]) -> Answer
+    ensures { λ r. ⌜ LagsRight (now (sheet .entry)) c (now (lags .entry)) (now (words .entry)) (lagsOutcome r (now (lags .exit)) (now (words .exit))) ⌝ }
+{
+    match read_frame(sheet) {
+        Frame::Refused(a) => a,
+        Frame::Counts(n, m) => lags::lags_framed(sheet, n, m, c, lags, words),
+    }
 }

@@ -4,7 +4,7 @@ use mathlib.Core.Path.{_≡_, refl, sym, ap, _∙_}
 use mathlib.Core.List.{List}
 use Prim.Native.Nat.{ℕ, _+_, _*_, _-_, _≤_, _<_}
 use native.Mathlib.Omega.{arith}
-use lib.ListN.{length, getD}
+use lib.ListN.{length, getD, replicate, length-replicate}
 use Rattle.sheet.specs.Lag.{excess}
 use Rattle.sheet.specs.Core.{blocksIn, wiresIn, lowerIn, upperIn, fromIn, toIn, registersIn, ceilingOf, shapeOf, coreOf}
 use Rattle.sheet.specs.Filled.{filled}
@@ -120,3 +120,16 @@ module _ (s : List ℕ) (S : SoundSheet s) (n m : ℕ) (n-is : n ≡ blocksIn s)
 
       pub loaded-held : Held s held
       loaded-held = record { stands = loaded-stands; fit = stands-fits loaded-stands loaded-room }
+
+-- ---- lists that are new
+pub new-room : Room (replicate 64 0) (replicate 64 0) (replicate 256 0) (replicate 256 0) (replicate 256 0) (replicate 256 0) (replicate 4096 0) (replicate 4096 0)
+new-room = record {
+  lower-long = length-replicate {A = ℕ} 64 0;
+  upper-long = length-replicate {A = ℕ} 64 0;
+  from-long = length-replicate {A = ℕ} 256 0;
+  to-long = length-replicate {A = ℕ} 256 0;
+  wires-long = length-replicate {A = ℕ} 256 0;
+  ceilings-long = length-replicate {A = ℕ} 256 0;
+  registers-long = length-replicate {A = ℕ} 4096 0;
+  delays-long = length-replicate {A = ℕ} 4096 0;
+}

@@ -29,7 +29,7 @@ use Rattle.witness.specs.Walked.{Halted}
 use Rattle.periods.specs.Lags.{Largest}
 use Rattle.periods.specs.Load.{Held}
 use Rattle.periods.specs.Solving.{Solving, Resting, Ran, Solved}
-use Rattle.periods.specs.Questions.{lagsOutcome, lagsLast}
+use Rattle.periods.specs.Questions.{LagsOutcome, lagsOutcome, lagsLast}
 use Rattle.periods.specs.Laws.Solved.{rest-largest, stands-at, largest-same}
 use Rattle.periods.specs.Laws.Asked.{lags-done}
 use Rattle.periods.specs.Laws.Loops.{refused-none, refused-slow}
@@ -184,8 +184,15 @@ module _ {s lower from to wires ceilings registers delays e par up w w′ : List
 -- a run that came to rest: what the writer of lags needs, and the answer 0 with the lags that it wrote
 module _ {s lower from to wires ceilings registers delays e par up w w′ : List ℕ} {n m p number : ℕ} {r : Stage}
     (h : Solved s n m p number lower from to wires ceilings registers delays e par up w w′ r) (q : r ≡ Pass) where
-  pub later-writes : (l : List ℤ) → n ≤ length l → (n ≤ 64) × (length e ≡ 64) × (n ≤ length l) × ((b : ℕ) → b < n → getD e b 0 < 65536)
-  later-writes l long = let R = solved-rests h q .0 in (resting-few R, R .solving .state .e-long, long, resting-small R)
+  pub later-writes : (k : ℕ) → n ≤ k → (n ≤ 64) × (length e ≡ 64) × (n ≤ k) × ((b : ℕ) → b < n → getD e b 0 < 65536)
+  later-writes k long = let R = solved-rests h q .0 in (resting-few R, R .solving .state .e-long, long, resting-small R)
 
   pub later-done : (l l′ : List ℤ) → n ≤ length l → l′ ≡ filled (λ b. lagOf (getD e b 0)) n l → First (lagsLast s p l w) (lagsOutcome (answer 0 0 0) l′ w′)
   later-done l l′ long f = let R = solved-rests h q in lags-written (R .0) l l′ w w′ long f (R .1)
+
+  -- the words are as they were: what the next run needs, and what it then gives
+  pub first-rests : (k : ℕ) → n ≤ k → n * (n + 2) ≤ length w → ((n ≤ k) × (n * (n + 2) ≤ length w′)) × Resting s n m p lower from to wires ceilings registers delays e par up
+  first-rests k long room = let R = solved-rests h q in ((long, rw (R .1) room), R .0)
+
+  pub first-kept : (c : ℕ) (l : List ℤ) (o : LagsOutcome) → First (lagsLast s c l w′) o → First (lagsLast s c l w) o
+  first-kept c l o f = rw (solved-rests h q .1) at f
