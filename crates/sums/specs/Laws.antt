@@ -1,0 +1,4 @@
+-- The computed test is sound, and every line of the table passes it.
+
+pub mod Finite
+pub mod Sound
