@@ -2,3 +2,4 @@
 
 pub mod Finite
 pub mod Sound
+pub mod Entries

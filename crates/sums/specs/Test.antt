@@ -93,3 +93,65 @@ module _ (s : List ℕ) where
 
   abbrev pub soundTest : Bool
   soundTest = every (soundTests ranks)
+
+-- ---- the path table: a path for each pair, found by rounds over all wires
+pub data Found : Type 0 where
+  far : Found
+  by : List ℕ → Found
+
+abbrev pub wiresOf : Found → List ℕ
+wiresOf far = []
+wiresOf (by ws) = ws
+
+-- fewer registers, or as many and at least the delay
+abbrev pub aheadTest : ℕ → ℕ → ℕ → ℕ → Bool
+aheadTest W D W′ D′ = cond (ltb W W′) true (eqb W W′ && leb D′ D)
+
+module _ (c : Core) where
+  module _ (u : ℕ) where
+    abbrev prefer : Found → Found → Found
+    prefer far y = y
+    prefer (by ws) far = by ws
+    prefer (by ws) (by xs) =
+        cond (aheadTest (registersOn (c .registers) xs) (delayOn (c .shape) u xs) (registersOn (c .registers) ws) (delayOn (c .shape) u ws)) (by xs) (by ws)
+
+    abbrev extend : Found → ℕ → Found
+    extend far j = far
+    extend (by ws) j = by (ws ++ (j ∷ []))
+
+    abbrev relax : ℕ → List Found → List Found
+    relax j row = set row (c .shape .to j) (prefer (extend (getD row (c .shape .from j) far) j) (getD row (c .shape .to j) far))
+
+    abbrev row : List (List ℕ)
+    row = map wiresOf (times (c .shape .n) (λ k. times (c .shape .m) relax) (set (replicate (c .shape .n) far) u (by [])))
+
+  abbrev pub rows : List (List (List ℕ))
+  rows = times (c .shape .n) (λ u found. found ++ (row u ∷ [])) []
+
+  -- the paths P of a table: each leads where it should, and no wire improves an entry
+  module _ (P : ℕ → ℕ → List ℕ) where
+    abbrev pub registersTo : ℕ → ℕ → ℕ
+    registersTo u v = registersOn (c .registers) (P u v)
+
+    abbrev pub delayTo : ℕ → ℕ → ℕ
+    delayTo u v = delayOn (c .shape) u (P u v)
+
+    abbrev pub pathTests : ℕ → ℕ → List Bool
+    pathTests u v = joinsTest (c .shape) u (P u v) ∷ eqb (endOf (c .shape) u (P u v)) v ∷ ltb (registersTo u v) 4294967295 ∷ []
+
+    abbrev pub stillTest : ℕ → ℕ → Bool
+    stillTest u j =
+        let f = c .shape .from j in
+        let t = c .shape .to j in
+        aheadTest (registersTo u t) (delayTo u t) (registersTo u f + c .registers j) (delayTo u f + c .shape .delay t)
+
+    abbrev pub rowTests : ℕ → List Bool
+    rowTests u =
+        eqb (registersTo u u) 0
+        ∷ eqb (delayTo u u) (c .shape .delay u)
+        ∷ allBelow (c .shape .n) (λ v. every (pathTests u v))
+        ∷ allBelow (c .shape .m) (stillTest u)
+        ∷ []
+
+    abbrev pub tableTest : Bool
+    tableTest = allBelow (c .shape .n) (λ u. every (rowTests u))

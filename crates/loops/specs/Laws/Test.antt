@@ -146,7 +146,7 @@ onward-sound : (s : Shape) (b : ℕ) (ws : List ℕ) → onwardTest s b ws ≡ t
 onward-sound s b [] e = tt
 onward-sound s b (j ∷ ws) e = passes-sound s b e
 
-joins-sound : (s : Shape) (u : ℕ) (ws : List ℕ) → joinsTest s u ws ≡ true → Joins s u ws (endOf s u ws)
+pub joins-sound : (s : Shape) (u : ℕ) (ws : List ℕ) → joinsTest s u ws ≡ true → Joins s u ws (endOf s u ws)
 joins-sound s u [] e = (ltb-true u (s .n) e, refl)
 joins-sound s u (j ∷ ws) e =
     let a0 = ltb u (s .n) in
@@ -193,7 +193,7 @@ module _ (c : Core) (p : ℕ) where
   good-sound (lower b) e = ltb-true b (c .shape .n) e
   good-sound (ceiling j) e = ltb-true j (c .shape .m) e
 
-  chain-sound : (a : ℕ) (ls : List Link) (z : ℕ) → chainTest c p a ls z ≡ true → Chain c p a ls z
+  pub chain-sound : (a : ℕ) (ls : List Link) (z : ℕ) → chainTest c p a ls z ≡ true → Chain c p a ls z
   chain-sound a [] z e = eqb-true a z e
   chain-sound a (l ∷ ls) z e =
       let a0 = eqb (linkA c l) a in
