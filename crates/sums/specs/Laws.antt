@@ -3,3 +3,5 @@
 pub mod Finite
 pub mod Sound
 pub mod Entries
+pub mod Lags
+pub mod Table

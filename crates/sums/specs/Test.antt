@@ -128,6 +128,17 @@ module _ (c : Core) where
   abbrev pub rows : List (List (List ℕ))
   rows = times (c .shape .n) (λ u found. found ++ (row u ∷ [])) []
 
+  -- ---- permitted lags
+  module _ (r : ℕ → ℤ) where
+    abbrev pub rangeTests : ℕ → List Bool
+    rangeTests b = leZ (c .lower b) (r b) ∷ leZ (r b) (c .upper b) ∷ []
+
+    abbrev pub fitTests : ℕ → List Bool
+    fitTests j = leZ (pos 0) (movedBy c r j) ∷ leZ (movedBy c r j) (pos (c .ceiling j)) ∷ []
+
+    abbrev pub permittedTests : List Bool
+    permittedTests = allBelow (c .shape .n) (λ b. every (rangeTests b)) ∷ allBelow (c .shape .m) (λ j. every (fitTests j)) ∷ []
+
   -- the paths P of a table: each leads where it should, and no wire improves an entry
   module _ (P : ℕ → ℕ → List ℕ) where
     abbrev pub registersTo : ℕ → ℕ → ℕ
@@ -155,3 +166,125 @@ module _ (c : Core) where
 
     abbrev pub tableTest : Bool
     tableTest = allBelow (c .shape .n) (λ u. every (rowTests u))
+
+    -- the largest delay of a register-free path is p
+    abbrev pub longTest : ℕ → ℕ → ℕ → Bool
+    longTest p u v = eqb (registersTo u v) 0 && eqb (delayTo u v) p
+
+    abbrev pub shortTest : ℕ → ℕ → ℕ → Bool
+    shortTest p u v = implies (eqb (registersTo u v) 0) (leb (delayTo u v) p)
+
+    abbrev pub periodTests : ℕ → List Bool
+    periodTests p =
+        tableTest
+        ∷ someBelow (c .shape .n) (λ u. someBelow (c .shape .n) (longTest p u))
+        ∷ allBelow (c .shape .n) (λ u. allBelow (c .shape .n) (shortTest p u))
+        ∷ []
+
+    abbrev pub entryTests : ℕ → ℕ → ℕ → ℕ → List Bool
+    entryTests u v W D =
+        tableTest ∷ ltb u (c .shape .n) ∷ ltb v (c .shape .n) ∷ eqb (registersTo u v) W ∷ eqb (delayTo u v) D ∷ []
+
+    -- ---- lags: they are permitted, keep a register on each slow path, and are held by chains of links to the host
+    module _ (r : ℕ → ℤ) where
+      abbrev pub slowTest : ℕ → ℕ → ℕ → Bool
+      slowTest p u v = implies (ltb p (delayTo u v)) (leZ (r u -ℤ r v) (pos (registersTo u v) -ℤ pos 1))
+
+      abbrev pub meetTests : ℕ → List Bool
+      meetTests p = tableTest ∷ every (permittedTests r) ∷ allBelow (c .shape .n) (λ u. allBelow (c .shape .n) (slowTest p u)) ∷ []
+
+      abbrev pub heldTests : ℕ → Chains → ℕ → List Bool
+      heldTests p why b = chainTest c p b (getD why b []) 0 ∷ sameZ (sumK c (getD why b [])) (r b) ∷ []
+
+      abbrev pub largestTests : ℕ → Chains → List Bool
+      largestTests p why = every (meetTests p) ∷ allBelow (c .shape .n) (λ b. every (heldTests p why b)) ∷ []
+
+  -- ---- loops
+  abbrev pub notInTest : ℕ → List ℕ → Bool
+  notInTest x [] = true
+  notInTest x (y ∷ ys) = not (eqb x y) && notInTest x ys
+
+  abbrev pub noDupTest : List ℕ → Bool
+  noDupTest [] = true
+  noDupTest (x ∷ xs) = notInTest x xs && noDupTest xs
+
+  abbrev pub noPathTest : List Link → Bool
+  noPathTest [] = true
+  noPathTest (wire j ∷ ls) = noPathTest ls
+  noPathTest (path u ws ∷ ls) = false
+  noPathTest (upper b ∷ ls) = noPathTest ls
+  noPathTest (lower b ∷ ls) = noPathTest ls
+  noPathTest (ceiling j ∷ ls) = noPathTest ls
+
+  -- no block twice as an a; no link of kind 2
+  abbrev pub onceTest : Parsed → Bool
+  onceTest (links l ls) = noDupTest (map (linkA c) (l ∷ ls))
+  onceTest unreadable = false
+
+  abbrev pub plainTest : Parsed → Bool
+  plainTest (links l ls) = noPathTest (l ∷ ls)
+  plainTest unreadable = false
+
+  abbrev pub givenTests : ℕ → List ℕ → List Bool
+  givenTests p words = validTest c p words ∷ onceTest (linksOf words) ∷ leb (length words) (wordsNeeded (c .shape .n)) ∷ []
+
+-- ---- the moved sheet
+module _ (s t : List ℕ) where
+  abbrev pub copiedTest : ℕ → ℕ → Bool
+  copiedTest at k = allBelow k (λ i. eqb (getD t (at + i) 0) (getD s (at + i) 0))
+
+  abbrev pub movedTests : (ℕ → ℤ) → List Bool
+  movedTests r =
+      allBelow (length t) (λ i. ltb (getD t i 0) 256)
+      ∷ eqb (length t) (length s)
+      ∷ copiedTest 0 16
+      ∷ allBelow (blocksIn s) (λ b. copiedTest (blockAt b) 4)
+      ∷ allBelow (blocksIn s) (λ b. sameZ (lowerIn t b) (lowerIn s b -ℤ r b))
+      ∷ allBelow (blocksIn s) (λ b. sameZ (upperIn t b) (upperIn s b -ℤ r b))
+      ∷ allBelow (wiresIn s) (λ j. copiedTest (wireAt (blocksIn s) j) 4)
+      ∷ allBelow (wiresIn s) (λ j. sameZ (pos (registersIn t j)) (movedBy (coreOf s) r j))
+      ∷ allBelow (wiresIn s) (λ j. copiedTest (wireAt (blocksIn s) j + 6) 2)
+      ∷ []
+
+-- refusal 9 at this wire
+abbrev pub leavesTests : Core → (ℕ → ℤ) → ℕ → List Bool
+leavesTests c r k =
+    allBelow (c .shape .n) (λ b. every (rangeTests c r b))
+    ∷ ltb k (c .shape .m)
+    ∷ allBelow k (λ j. every (fitTests c r j))
+    ∷ not (every (fitTests c r k))
+    ∷ []
+
+-- ---- a line
+-- the paths that the test found
+abbrev pub pathsOf : List ℕ → ℕ → ℕ → List ℕ
+pathsOf s u v = getD (getD (rows (coreOf s)) u []) v []
+
+-- the period before p is ruled out
+abbrev pub beforeTest : Core → ℕ → List ℕ → Bool
+beforeTest c zero words = true
+beforeTest c (suc p) words = validTest c p words
+
+abbrev pub tests : Line → List Bool
+tests (sound s) = soundTest s ∷ []
+tests (period s p) = soundTest s ∷ every (periodTests (coreOf s) (pathsOf s) p) ∷ []
+tests (entry s u v W D) = soundTest s ∷ every (entryTests (coreOf s) (pathsOf s) u v W D) ∷ []
+tests (best s p lags why before) =
+    soundTest s ∷ every (largestTests (coreOf s) (pathsOf s) (lagsIn lags) p why) ∷ eqb (length lags) (blocksIn s) ∷ beforeTest (coreOf s) p before ∷ []
+tests (lagsAt s c lags why) = soundTest s ∷ every (largestTests (coreOf s) (pathsOf s) (lagsIn lags) c why) ∷ eqb (length lags) (blocksIn s) ∷ []
+tests (meet s c lags larger) =
+    soundTest s ∷ every (meetTests (coreOf s) (pathsOf s) (lagsIn lags) c) ∷ allBelow (blocksIn s) (λ b. leZ (lagsIn lags b) (lagsIn larger b)) ∷ []
+tests (slow s c words permitted) = soundTest s ∷ every (givenTests (coreOf s) c words) ∷ every (permittedTests (coreOf s) (lagsIn permitted)) ∷ []
+tests (stuck s words) = soundTest s ∷ every (givenTests (coreOf s) 0 words) ∷ plainTest (coreOf s) (linksOf words) ∷ []
+tests (loopYes s c words) = soundTest s ∷ validTest (coreOf s) c words ∷ []
+tests (loopNo s c words) = soundTest s ∷ not (validTest (coreOf s) c words) ∷ []
+tests (moves s lags moved) =
+    soundTest s ∷ leb (blocksIn s) (length lags) ∷ every (permittedTests (coreOf s) (lagsIn lags)) ∷ every (movedTests s moved (lagsIn lags)) ∷ []
+tests (leaves s lags place) = soundTest s ∷ leb (blocksIn s) (length lags) ∷ every (leavesTests (coreOf s) (lagsIn lags) place) ∷ []
+
+abbrev pub test : Line → Bool
+test x = every (tests x)
+
+abbrev pub testAll : List Line → Bool
+testAll [] = true
+testAll (x ∷ xs) = test x && testAll xs

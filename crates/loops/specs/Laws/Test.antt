@@ -129,7 +129,7 @@ from-told (f ∷ fuel) l (m ∷ ls) h =
     ∙ ap (λ (x : Lead). before l (linksFrom fuel x)) (lead-told m (allWords ls))
     ∙ ap (before l) (from-told fuel m ls (omega (arith, shorter m (allWords ls))))
 
-links-told : (l : Link) (ls : List Link) → linksOf (allWords (l ∷ ls)) ≡ links l ls
+pub links-told : (l : Link) (ls : List Link) → linksOf (allWords (l ∷ ls)) ≡ links l ls
 links-told l ls =
     ap (linksFrom (allWords (l ∷ ls))) (lead-told l (allWords ls))
     ∙ from-told (allWords (l ∷ ls)) l ls (shorter l (allWords ls))

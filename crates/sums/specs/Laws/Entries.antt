@@ -44,7 +44,7 @@ module _ (c : Core) (P : ℕ → ℕ → List ℕ) (t : T (tableTest c P)) where
     start : (W u ≡ 0) × (D u ≡ c .shape .delay u)
     start = let h = each (rowTests c P u) tests in (eqb→eq (W u) 0 (h .0), eqb→eq (D u) (c .shape .delay u) (h .1 .0))
 
-    leads : (v : ℕ) → v < c .shape .n → Joins (c .shape) u (P u v) v × (W v < 4294967295)
+    pub leads : (v : ℕ) → v < c .shape .n → Joins (c .shape) u (P u v) v × (W v < 4294967295)
     leads v k =
         let h = each (rowTests c P u) tests in
         let p = each (pathTests c P u v) (all-below (c .shape .n) (λ (v : ℕ). every (pathTests c P u v)) (h .1 .1 .0) v k) in
