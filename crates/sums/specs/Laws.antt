@@ -4,4 +4,8 @@ pub mod Finite
 pub mod Sound
 pub mod Entries
 pub mod Lags
+pub mod Loops
+pub mod Over
+pub mod Moves
+pub mod Line
 pub mod Table

@@ -154,6 +154,11 @@ right (loopNo s c words) = LoopRight s c words (answer 12 0 0)
 right (moves s lags moved) = LentSheet s (λ l. MoveRight s lags l (moveOutcome (answer 0 0 0) (over moved l)))
 right (leaves s lags place) = LentSheet s (λ l. MoveRight s lags l (moveOutcome (answer 9 place 0) l))
 
+-- every line of a table is right
+abbrev pub AllRight : List Line → Type 0
+AllRight [] = Unit {0}
+AllRight (x ∷ xs) = right x × AllRight xs
+
 -- ---- the table
 abbrev lags0001 : List ℤ
 lags0001 = pos 0 ∷ pos 0 ∷ pos 0 ∷ pos 1 ∷ []
