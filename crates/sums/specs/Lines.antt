@@ -3,17 +3,16 @@ use mathlib.Core.Path.{_≡_}
 use mathlib.Core.List.{List, [], _∷_, _++_}
 use Prim.Native.Nat.{ℕ, _+_, _*_, _/_, _%_, _≤_, _<_}
 use lib.IntN.{ℤ, pos, negℤ}
-use lib.Signed.{_≤ℤ_}
+use lib.Signed.{_≤ℤ_, _<ℤ_}
 use lib.ListN.{length, getD, drop}
 use mir.Syntax.{w16}
 use mir.Val.{ofZ}
 use Rattle.sheet.specs.Core.{coreOf, blocksIn}
 use Rattle.sheet.specs.Rules.{answer}
-use Rattle.sheet.specs.declared.answer.Answer.{Answer}
 use Rattle.paths.specs.Questions.{CheckRight, TableOutcome, TableRight}
 use Rattle.moves.specs.Lags.{lagsIn, Meets}
 use Rattle.moves.specs.Move.{moveOutcome, MoveRight}
-use Rattle.loops.specs.Link.{Link}
+use Rattle.loops.specs.Link.{Link, sumK, ValidLoop}
 use Rattle.loops.specs.Link as L
 use Rattle.loops.specs.Loop.{LoopRight}
 use Rattle.periods.specs.Questions.{PeriodRight, lagsOutcome, wordsNeeded, LagsRight, BestRight}
@@ -72,9 +71,9 @@ narrowRing = ringWith (pos 0) (pos 2) (less 2) (pos 0)
 abbrev pub stuckRing : List ℕ
 stuckRing = ringWith (pos 1) (pos 1) (less 2) (pos 0)
 
--- "blocks 0 and 1, wires 0 to 1 with 1, 0 to 1 with 3, 1 to 0 with 0, lag of block 1 from -2 to 2"; block 1's delay does not matter
+-- "blocks 0 and 1, wires 0 to 1 with 1, 0 to 1 with 3, 1 to 0 with 0, lag of block 1 from -2 to 2"; its delay is 0
 abbrev pub pairWith : ℤ → ℤ → ℕ → ℕ → ℕ → List ℕ
-pairWith lower upper a b c = sheet (host ∷ block 1 lower upper ∷ []) (wire 0 1 a ∷ wire 0 1 b ∷ wire 1 0 c ∷ [])
+pairWith lower upper a b c = sheet (host ∷ block 0 lower upper ∷ []) (wire 0 1 a ∷ wire 0 1 b ∷ wire 1 0 c ∷ [])
 
 abbrev pub pair : List ℕ
 pair = pairWith (less 2) (pos 2) 1 3 0
@@ -103,14 +102,14 @@ pub data Line : Type 0 where
   best : (s : List ℕ) (p : ℕ) (lags : List ℤ) (why : Chains) (before : List ℕ) → Line
   -- lags at period c
   lagsAt : (s : List ℕ) (c : ℕ) (lags : List ℤ) (why : Chains) → Line
-  -- lags that meet c and are at most the larger ones
+  -- lags that meet c, are nowhere above the larger ones and somewhere below
   meet : (s : List ℕ) (c : ℕ) (lags larger : List ℤ) → Line
   -- lags at period c: refusal 11, with this loop; the permitted lags are not claimed
   slow : (s : List ℕ) (c : ℕ) (words : List ℕ) (permitted : List ℤ) → Line
   -- refusal 10 in both lag questions, with this loop
   stuck : (s : List ℕ) (words : List ℕ) → Line
-  -- check a loop: yes, and 12
-  loopYes : (s : List ℕ) (c : ℕ) (words : List ℕ) → Line
+  -- check a loop: yes, with this sum of the k's; and 12
+  loopYes : (s : List ℕ) (c : ℕ) (words : List ℕ) (sum : ℤ) → Line
   loopNo : (s : List ℕ) (c : ℕ) (words : List ℕ) → Line
   -- move by lags: the moved sheet, and refusal 9 at a wire
   moves : (s : List ℕ) (lags : List ℤ) (moved : List ℕ) → Line
@@ -138,18 +137,22 @@ Lent s Says = (l : List ℤ) (w : List ℕ) → blocksIn s ≤ length l → word
 abbrev pub LentSheet : List ℕ → (List ℕ → Type 0) → Type 0
 LentSheet s Says = (l : List ℕ) → length s ≤ length l → Says l
 
+-- 01: "are smaller"
+abbrev pub LessThan : ℕ → (ℕ → ℤ) → (ℕ → ℤ) → Type 0
+LessThan n r q = ((b : ℕ) → b < n → r b ≤ℤ q b) × ((b : ℕ) × (b < n) × (r b <ℤ q b))
+
 abbrev pub right : Line → Type 0
 right (sound s) = CheckRight s (answer 0 0 0)
 right (period s p) = PeriodRight s (answer 0 0 p)
 right (entry s u v registers delay) = EntrySaid s u v registers delay
 right (best s p lags why before) = Lent s (λ l w. BestRight s l w (lagsOutcome (answer 0 0 p) (over lags l) w))
 right (lagsAt s c lags why) = Lent s (λ l w. LagsRight s c l w (lagsOutcome (answer 0 0 0) (over lags l) w))
-right (meet s c lags larger) = Meets (coreOf s) c (lagsIn lags) × ((b : ℕ) → b < blocksIn s → lagsIn lags b ≤ℤ lagsIn larger b)
+right (meet s c lags larger) = Meets (coreOf s) c (lagsIn lags) × LessThan (blocksIn s) (lagsIn lags) (lagsIn larger)
 right (slow s c words permitted) = Lent s (λ l w. LagsRight s c l w (lagsOutcome (answer 11 0 (length words)) l (over words w)))
 right (stuck s words) =
     Lent s (λ l w. BestRight s l w (lagsOutcome (answer 10 0 (length words)) l (over words w)))
     × ((c : ℕ) → Lent s (λ l w. LagsRight s c l w (lagsOutcome (answer 10 0 (length words)) l (over words w))))
-right (loopYes s c words) = LoopRight s c words (answer 0 0 0)
+right (loopYes s c words sum) = LoopRight s c words (answer 0 0 0) × ((v : ValidLoop (coreOf s) c words) → sumK (coreOf s) (v .first ∷ v .others) ≡ sum)
 right (loopNo s c words) = LoopRight s c words (answer 12 0 0)
 right (moves s lags moved) = LentSheet s (λ l. MoveRight s lags l (moveOutcome (answer 0 0 0) (over moved l)))
 right (leaves s lags place) = LentSheet s (λ l. MoveRight s lags l (moveOutcome (answer 9 place 0) l))
@@ -200,17 +203,23 @@ table =
     ∷ lagsAt ring 12 (pos 0 ∷ pos 1 ∷ pos 1 ∷ pos 1 ∷ []) ([] ∷ (L.wire 1 ∷ L.wire 2 ∷ L.wire 3 ∷ []) ∷ (L.wire 2 ∷ L.wire 3 ∷ []) ∷ (L.wire 3 ∷ []) ∷ [])
     -- "at 6: refusal 11. The words 2 1 1 1, 2 2 1 2, 2 3 2 3 0 are a valid loop; sum -1. At 7 the same words get 12."
     ∷ slow ring 6 slowWords lags0000
-    ∷ loopYes ring 6 slowWords
+    ∷ loopYes ring 6 slowWords (less 1)
     ∷ loopNo ring 7 slowWords
     -- "block 1 limited to 0..2 and block 3 to -2..0: best 12, lags all 0"
     ∷ best narrowRing 12 lags0000 ([] ∷ (L.wire 1 ∷ L.wire 2 ∷ L.upper 3 ∷ []) ∷ (L.wire 2 ∷ L.upper 3 ∷ []) ∷ (L.upper 3 ∷ []) ∷ []) (4 ∷ 1 ∷ 2 ∷ 1 ∷ 2 ∷ 1 ∷ 2 ∷ 3 ∷ 3 ∷ [])
     -- "block 1 limited to 1..1 and block 3 to -2..0: refusal 10. Words 4 1, 1 1, 1 2, 3 3 are valid."
     ∷ stuck stuckRing stuckWords
-    ∷ loopYes stuckRing 12 stuckWords
+    ∷ loopYes stuckRing 12 stuckWords (less 1)
     -- "lag -1 gives 0, 2, 1; lag -2 gives refusal 9 at wire 0; lag 1 gives refusal 9 at wire 2"
     ∷ moves pair (pos 0 ∷ less 1 ∷ []) (pairWith (less 1) (pos 3) 0 2 1)
     ∷ leaves pair (pos 0 ∷ less 2 ∷ []) 0
     ∷ leaves pair (pos 0 ∷ pos 1 ∷ []) 2
     -- "host alone, no wires: best 0, lag 0"
     ∷ best hostAlone 0 (pos 0 ∷ []) ([] ∷ []) []
+    -- and each of these sheets is sound
+    ∷ sound ring
+    ∷ sound narrowRing
+    ∷ sound stuckRing
+    ∷ sound pair
+    ∷ sound hostAlone
     ∷ []

@@ -4,7 +4,7 @@ use mathlib.Core.List.{List, [], _∷_, _++_, map}
 use Prim.Native.Nat.{ℕ, zero, suc, _+_, _*_, _-_}
 use lib.Dec.{ltb, leb, eqb}
 use lib.IntN.{ℤ, pos, negsuc, _-ℤ_}
-use lib.Signed.{leZ}
+use lib.Signed.{leZ, ltZ}
 use lib.ListN.{length, getD, set, replicate}
 use Rattle.sheet.specs.Bytes.{u32At}
 use Rattle.sheet.specs.Core.{Core, coreOf, blocksIn, wiresIn, blockAt, wireAt, delayIn, lowerIn, upperIn, fromIn, toIn, registersIn, spareIn}
@@ -225,6 +225,10 @@ module _ (c : Core) where
   plainTest (links l ls) = noPathTest (l ∷ ls)
   plainTest unreadable = false
 
+  abbrev pub sumTest : ℤ → Parsed → Bool
+  sumTest sum (links l ls) = sameZ (sumK c (l ∷ ls)) sum
+  sumTest sum unreadable = false
+
   abbrev pub givenTests : ℕ → List ℕ → List Bool
   givenTests p words = validTest c p words ∷ onceTest (linksOf words) ∷ leb (length words) (wordsNeeded (c .shape .n)) ∷ []
 
@@ -260,6 +264,9 @@ leavesTests c r k =
 abbrev pub pathsOf : List ℕ → ℕ → ℕ → List ℕ
 pathsOf s u v = getD (getD (rows (coreOf s)) u []) v []
 
+abbrev pub lessTests : ℕ → (ℕ → ℤ) → (ℕ → ℤ) → List Bool
+lessTests n r q = allBelow n (λ b. leZ (r b) (q b)) ∷ someBelow n (λ b. ltZ (r b) (q b)) ∷ []
+
 -- the period before p is ruled out
 abbrev pub beforeTest : Core → ℕ → List ℕ → Bool
 beforeTest c zero words = true
@@ -273,10 +280,10 @@ tests (best s p lags why before) =
     soundTest s ∷ every (largestTests (coreOf s) (pathsOf s) (lagsIn lags) p why) ∷ eqb (length lags) (blocksIn s) ∷ beforeTest (coreOf s) p before ∷ []
 tests (lagsAt s c lags why) = soundTest s ∷ every (largestTests (coreOf s) (pathsOf s) (lagsIn lags) c why) ∷ eqb (length lags) (blocksIn s) ∷ []
 tests (meet s c lags larger) =
-    soundTest s ∷ every (meetTests (coreOf s) (pathsOf s) (lagsIn lags) c) ∷ allBelow (blocksIn s) (λ b. leZ (lagsIn lags b) (lagsIn larger b)) ∷ []
+    soundTest s ∷ every (meetTests (coreOf s) (pathsOf s) (lagsIn lags) c) ∷ every (lessTests (blocksIn s) (lagsIn lags) (lagsIn larger)) ∷ []
 tests (slow s c words permitted) = soundTest s ∷ every (givenTests (coreOf s) c words) ∷ every (permittedTests (coreOf s) (lagsIn permitted)) ∷ []
 tests (stuck s words) = soundTest s ∷ every (givenTests (coreOf s) 0 words) ∷ plainTest (coreOf s) (linksOf words) ∷ []
-tests (loopYes s c words) = soundTest s ∷ validTest (coreOf s) c words ∷ []
+tests (loopYes s c words sum) = soundTest s ∷ validTest (coreOf s) c words ∷ sumTest (coreOf s) sum (linksOf words) ∷ []
 tests (loopNo s c words) = soundTest s ∷ not (validTest (coreOf s) c words) ∷ []
 tests (moves s lags moved) =
     soundTest s ∷ leb (blocksIn s) (length lags) ∷ every (permittedTests (coreOf s) (lagsIn lags)) ∷ every (movedTests s moved (lagsIn lags)) ∷ []

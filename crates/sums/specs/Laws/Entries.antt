@@ -1,21 +1,21 @@
 -- Paths that pass the test of a table are its best.
 -- Assumes nothing.
-use mathlib.Core.Path.{_≡_, refl, sym, ap, _∙_, subst}
+use mathlib.Core.Path.{_≡_, refl, sym, ap, subst}
 use mathlib.Core.Bool.{Bool, true, false, _&&_, cond}
 use mathlib.Core.List.{List, [], _∷_}
-use Prim.Native.Nat.{ℕ, _+_, _≤_, _<_}
+use Prim.Native.Nat.{ℕ, _+_, _<_}
 use native.Mathlib.Omega.{arith}
 use lib.Ieee.Bits.{is-true}
 use lib.Dec.{T, eqb, ltb, leb, leb→le, ltb→lt, eqb→eq}
 use lib.Ieee.Fits.{and-l, and-r}
 use Rattle.sheet.specs.Core.{Core}
 use Rattle.paths.specs.Path.{Joins, registersOn, delayOn}
-use Rattle.paths.specs.Table.{Best, Period}
-use Rattle.paths.specs.Laws.Path.{endOf, joins-start-lt, joins-end-lt}
+use Rattle.paths.specs.Table.{Best}
+use Rattle.paths.specs.Laws.Path.{endOf}
 use Rattle.paths.specs.Laws.Ahead.{Ahead, fewer, level, ahead-registers, ahead-delay, ahead-refl, ahead-trans, ahead-add, ahead-as}
 use Rattle.loops.specs.Test.{joinsTest}
 use Rattle.loops.specs.Laws.Test.{joins-sound}
-use Rattle.sums.specs.Test.{every, implies, allBelow, someBelow, aheadTest, registersTo, delayTo, pathTests, stillTest, rowTests, tableTest}
+use Rattle.sums.specs.Test.{every, aheadTest, registersTo, delayTo, pathTests, stillTest, rowTests, tableTest}
 use Rattle.sums.specs.Laws.Finite.{each, all-below}
 
 ahead-told : (W D W′ D′ : ℕ) → T (aheadTest W D W′ D′) → Ahead W D W′ D′

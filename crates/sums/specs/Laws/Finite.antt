@@ -1,12 +1,12 @@
 -- Tests put together, and what they say when they pass.
 -- Assumes nothing.
 use mathlib.Core.Path.{_≡_, refl, sym, subst}
-use mathlib.Core.Bool.{Bool, true, false, _&&_, cond}
+use mathlib.Core.Bool.{Bool, true, false, cond}
 use mathlib.Core.List.{List, [], _∷_}
 use Prim.Native.Nat.{ℕ, zero, suc, _<_}
 use native.Mathlib.Omega.{arith}
 use native.Mathlib.Decide.{decLt}
-use lib.Dec.{T, leb→le}
+use lib.Dec.{T}
 use lib.Ieee.Fits.{and-l, and-r}
 use lib.IntN.{ℤ}
 use lib.Signed.{leZ, _≤ℤ_}

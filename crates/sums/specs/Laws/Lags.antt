@@ -1,9 +1,8 @@
 -- Lags that pass the tests are permitted, meet their period, and are the largest; the period that passes is the sheet's.
 -- Assumes nothing.
-use mathlib.Core.Path.{_≡_, refl, sym, ap, _∙_, subst}
-use mathlib.Core.Bool.{Bool, _&&_}
+use mathlib.Core.Path.{_≡_, refl, sym, ap, _∙_}
 use mathlib.Core.List.{List, []}
-use Prim.Native.Nat.{ℕ, zero, suc, _+_, _≤_, _<_}
+use Prim.Native.Nat.{ℕ, zero, suc, _≤_, _<_}
 use native.Mathlib.Omega.{arith}
 use borrow.Author.Tests.{eq-eqb, lt-ltb}
 use lib.Dec.{T, eqb, ltb, leb, leb→le, eqb→eq}
@@ -15,8 +14,7 @@ use lib.ListN.{getD}
 use Rattle.sheet.specs.Core.{Core}
 use Rattle.sheet.specs.Sheet.{Formed}
 use Rattle.sheet.specs.Laws.Integer.{up, down, parts-le}
-use Rattle.paths.specs.Path.{registersOn}
-use Rattle.paths.specs.Table.{Best, Entry, best, Period}
+use Rattle.paths.specs.Table.{Entry, best, Period}
 use Rattle.paths.specs.Laws.Path.{joins-start-lt, joins-end-lt}
 use Rattle.paths.specs.Laws.Entry.{entry-unique}
 use Rattle.moves.specs.Lags.{movedBy, Fits, Permitted, Meets}
@@ -28,7 +26,7 @@ use Rattle.periods.specs.Lags.{Largest, Least}
 use Rattle.periods.specs.Laws.Rules.{keeps-meets}
 use Rattle.periods.specs.Laws.Search.{least-next}
 use Rattle.sums.specs.Lines.{Chains}
-use Rattle.sums.specs.Test.{every, implies, allBelow, someBelow, sameZ, rangeTests, fitTests, permittedTests, registersTo, delayTo, tableTest, longTest, shortTest, periodTests, slowTest, meetTests, heldTests, largestTests, beforeTest}
+use Rattle.sums.specs.Test.{every, allBelow, someBelow, rangeTests, fitTests, permittedTests, registersTo, delayTo, tableTest, longTest, shortTest, periodTests, slowTest, meetTests, heldTests, largestTests, beforeTest}
 use Rattle.sums.specs.Laws.Finite.{each, implied, all-below, some-below, le-told, same-told}
 use Rattle.sums.specs.Laws.Entries.{leads, table-told}
 

@@ -1,16 +1,16 @@
 -- A line that passes its test is right.
 -- Assumes nothing.
-use mathlib.Core.Path.{_≡_, refl, sym, ap, _∙_, subst}
+use mathlib.Core.Path.{_≡_, refl, sym, _∙_, subst}
 use mathlib.Core.Logic.{inl, inr}
-use mathlib.Core.Bool.{Bool, true, not}
+use mathlib.Core.Bool.{true}
 use mathlib.Core.List.{List, [], _∷_, _++_}
-use Prim.Native.Nat.{ℕ, _+_, _*_, _≤_, _<_}
+use Prim.Native.Nat.{ℕ, _+_, _*_, _≤_}
 use native.Mathlib.Omega.{arith}
-use lib.Dec.{T, T-not, leb, eqb, leb→le, ltb→lt, eqb→eq}
+use lib.Dec.{T, T-not, leb→le, ltb→lt, eqb→eq}
 use lib.Ieee.Bits.{is-true}
 use lib.IntN.{ℤ, pos}
-use lib.Signed.{leZ}
-use lib.ListN.{length, getD, take, List·getD-append}
+use lib.Signed.{leZ, ltZ}
+use lib.ListN.{length, getD, List·getD-append}
 use lib.Seq.{take-append-seam}
 use Rattle.sheet.specs.Core.{Core, coreOf, shapeOf, blocksIn, registersIn}
 use Rattle.sheet.specs.Rules.{Rule, First, answer, stage}
@@ -23,19 +23,19 @@ use Rattle.paths.specs.Table.{Period}
 use Rattle.paths.specs.Questions.{SoundSheet, soundRules, roomRules, TableOutcome, tableOutcome, TableDone, tableAfterFrame, TableRight}
 use Rattle.paths.specs.Laws.Questions.{sheet-sound, sound-checks}
 use Rattle.paths.specs.Laws.Entry.{entry-unique}
-use Rattle.moves.specs.Lags.{lagsIn, Permitted}
-use Rattle.loops.specs.Test.{linksOf, validTest}
-use Rattle.loops.specs.Laws.Test.{test-sound, test-complete}
+use Rattle.moves.specs.Lags.{lagsIn}
+use Rattle.loops.specs.Test.{validTest}
+use Rattle.loops.specs.Laws.Test as LT
 use Rattle.loops.specs.Laws.Question.{loop-rest, loop-yes, loop-no}
-use Rattle.periods.specs.Lags.{Largest, Least, NonePermitted, LoopGiven, PlainLoop}
-use Rattle.periods.specs.Questions.{PeriodDone, PeriodRight, LagsOutcome, lagsOutcome, wordsNeeded, LagsDone, LagsRefused, lagsLast, LagsRight, BestDone, bestLast, BestRight}
+use Rattle.periods.specs.Lags.{Largest, LoopGiven, PlainLoop}
+use Rattle.periods.specs.Questions.{PeriodDone, PeriodRight, LagsOutcome, lagsOutcome, wordsNeeded, LagsDone, LagsRefused, lagsLast, LagsRight, bestLast, BestRight}
 use Rattle.periods.specs.Laws.Asked.{asked-rest, asked-last, best-none, best-done, lags-none, lags-slow, lags-done, plain-none, given-none}
-use Rattle.sums.specs.Lines.{over, Chains, Line, sound, period, entry, best, lagsAt, meet, slow, stuck, loopYes, loopNo, moves, leaves, HasEntry, EntrySaid, right}
-use Rattle.sums.specs.Test.{every, allBelow, soundTest, registersTo, delayTo, tableTest, entryTests, periodTests, permittedTests, meetTests, largestTests, plainTest, givenTests, movedTests, leavesTests, pathsOf, beforeTest, tests, test}
-use Rattle.sums.specs.Laws.Finite.{each, all-below, le-told}
+use Rattle.sums.specs.Lines.{over, Line, sound, period, entry, best, lagsAt, meet, slow, stuck, loopYes, loopNo, moves, leaves, EntrySaid, LessThan, right}
+use Rattle.sums.specs.Test.{every, lessTests, registersTo, delayTo, entryTests, givenTests, pathsOf, tests, test}
+use Rattle.sums.specs.Laws.Finite.{each, all-below, some-below, le-told}
 use Rattle.sums.specs.Laws.Sound.{sound-told}
 use Rattle.sums.specs.Laws.Lags.{permitted-told, largest-same, entry-told, period-told, meet-told, largest-told, least-told}
-use Rattle.sums.specs.Laws.Loops.{given-told, plain-given}
+use Rattle.sums.specs.Laws.Loops.{sum-told, given-told, plain-given}
 use Rattle.sums.specs.Laws.Over.{over-long, over-past}
 use Rattle.sums.specs.Laws.Moves.{moves-right, leaves-right}
 
@@ -120,18 +120,24 @@ module _ (s : List ℕ) (h : SoundSheet s) where
     }
 
 -- ---- the test is sound
+less-told : (n : ℕ) (r q : ℕ → ℤ) → T (every (lessTests n r q)) → LessThan n r q
+less-told n r q t =
+    let g = each (lessTests n r q) t in
+    let b = some-below n (λ (b : ℕ). ltZ (r b) (q b)) (g .1 .0) in
+    (λ b k. le-told (r b) (q b) (all-below n (λ (b : ℕ). leZ (r b) (q b)) (g .0) b k), (b .0, b .1, record { lt = b .2 }))
+
 few-of : (c : Core) (p : ℕ) (words : List ℕ) → T (every (givenTests c p words)) → length words ≤ wordsNeeded (c .shape .n)
 few-of c p words t = leb→le (length words) (wordsNeeded (c .shape .n)) (each (givenTests c p words) t .1 .1 .0)
 
-pub line-told : (x : Line) → T (test x) → right x
-line-told (sound s) t = sound-checks s (sound-told s (each (tests (sound s)) t .0))
-line-told (period s p) t =
+told : (x : Line) → T (test x) → right x
+told (sound s) t = sound-checks s (sound-told s (each (tests (sound s)) t .0))
+told (period s p) t =
     let g = each (tests (period s p)) t in
     period-right s (sound-told s (g .0)) p (period-told (coreOf s) (pathsOf s) p (g .1 .0))
-line-told (entry s u v W D) t =
+told (entry s u v W D) t =
     let g = each (tests (entry s u v W D)) t in
     entry-right s (sound-told s (g .0)) (pathsOf s) u v W D (g .1 .0)
-line-told (best s p lags why before) t =
+told (best s p lags why before) t =
     let g = each (tests (best s p lags why before)) t in
     let h = sound-told s (g .0) in
     let a = largest-told (coreOf s) (pathsOf s) (lagsIn lags) p (formed s h) why (g .1 .0) in
@@ -141,25 +147,23 @@ line-told (best s p lags why before) t =
       least = least-told (coreOf s) (formed s h) p before (lagsIn lags) (g .1 .1 .1 .0) (a .meets);
       done = lags-over s h l w i j lags e p p a;
     }))
-line-told (lagsAt s c lags why) t =
+told (lagsAt s c lags why) t =
     let g = each (tests (lagsAt s c lags why)) t in
     let h = sound-told s (g .0) in
     let a = largest-told (coreOf s) (pathsOf s) (lagsIn lags) c (formed s h) why (g .1 .0) in
     let e = eqb→eq (length lags) (blocksIn s) (g .1 .1 .0) in
     λ l w i j. asked-lags s h l w i j c _ (lags-done s l w _ c (lags-over s h l w i j lags e c 0 a))
-line-told (meet s c lags larger) t =
-    let g = each (tests (meet s c lags larger)) t in (
-      meet-told (coreOf s) (pathsOf s) (lagsIn lags) c (g .1 .0),
-      λ b k. le-told (lagsIn lags b) (lagsIn larger b) (all-below (blocksIn s) (λ (b : ℕ). leZ (lagsIn lags b) (lagsIn larger b)) (g .1 .1 .0) b k),
-    )
-line-told (slow s c words permitted) t =
+told (meet s c lags larger) t =
+    let g = each (tests (meet s c lags larger)) t in
+    (meet-told (coreOf s) (pathsOf s) (lagsIn lags) c (g .1 .0), less-told (blocksIn s) (lagsIn lags) (lagsIn larger) (g .1 .1 .0))
+told (slow s c words permitted) t =
     let g = each (tests (slow s c words permitted)) t in
     let h = sound-told s (g .0) in
     let k = given-told (coreOf s) words c (g .1 .0) in
     λ l w i j. asked-lags s h l w i j c _
     (lags-slow s l w _ c (lagsIn permitted) (permitted-told (coreOf s) (lagsIn permitted) (g .1 .1 .0)) (given-none (coreOf s) (formed s h) c words k)
     (words-over s h l w i j 11 (LoopGiven (coreOf s) c) words k (few-of (coreOf s) c words (g .1 .0))))
-line-told (stuck s words) t =
+told (stuck s words) t =
     let g = each (tests (stuck s words)) t in
     let h = sound-told s (g .0) in
     let k = plain-given (coreOf s) words (g .1 .0) (g .1 .1 .0) in
@@ -168,20 +172,24 @@ line-told (stuck s words) t =
       λ l w i j. asked-best s h l w i j _ (best-none s l w _ none (words-over s h l w i j 10 (PlainLoop (coreOf s)) words k few)),
       λ c l w i j. asked-lags s h l w i j c _ (lags-none s l w _ c none (words-over s h l w i j 10 (PlainLoop (coreOf s)) words k few)),
     )
-line-told (loopYes s c words) t =
-    let g = each (tests (loopYes s c words)) t in
+told (loopYes s c words sum) t =
+    let g = each (tests (loopYes s c words sum)) t in
     let h = sound-told s (g .0) in
-    loop-rest s c words (answer 0 0 0) (h .formed .framed) (loop-yes s c words (sheet-sound s h) (test-sound (coreOf s) c words (is-true (validTest (coreOf s) c words) (g .1 .0))))
-line-told (loopNo s c words) t =
+    let v = LT.test-sound (coreOf s) c words (is-true (validTest (coreOf s) c words) (g .1 .0)) in
+    (loop-rest s c words (answer 0 0 0) (h .formed .framed) (loop-yes s c words (sheet-sound s h) v), λ v. sum-told (coreOf s) words c v sum (g .1 .1 .0))
+told (loopNo s c words) t =
     let g = each (tests (loopNo s c words)) t in
     let h = sound-told s (g .0) in
     let b = validTest (coreOf s) c words in
-    loop-rest s c words (answer 12 0 0) (h .formed .framed) (loop-no s c words (sheet-sound s h) (λ v. T-not b (g .1 .0) (subst T (sym (test-complete (coreOf s) c words v)) tt)))
-line-told (moves s lags moved) t =
+    loop-rest s c words (answer 12 0 0) (h .formed .framed) (loop-no s c words (sheet-sound s h) (λ v. T-not b (g .1 .0) (subst T (sym (LT.test-complete (coreOf s) c words v)) tt)))
+told (moves s lags moved) t =
     let g = each (tests (moves s lags moved)) t in
     let h = sound-told s (g .0) in
     λ l k. moves-right s lags l h (leb→le (blocksIn s) (length lags) (g .1 .0)) k (permitted-told (coreOf s) (lagsIn lags) (g .1 .1 .0)) moved (g .1 .1 .1 .0)
-line-told (leaves s lags place) t =
+told (leaves s lags place) t =
     let g = each (tests (leaves s lags place)) t in
     let h = sound-told s (g .0) in
     λ l k. leaves-right s lags l h (leb→le (blocksIn s) (length lags) (g .1 .0)) k place (g .1 .1 .0)
+
+pub test-sound : (x : Line) → test x ≡ true → right x
+test-sound x e = told x (subst T (sym e) tt)

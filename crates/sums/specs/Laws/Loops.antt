@@ -1,22 +1,22 @@
 -- Words that pass the tests are a loop as 10 and 11 give it.
 -- Assumes nothing.
 use mathlib.Core.Path.{_≡_, ap, _∙_, subst}
-use mathlib.Core.Bool.{Bool, not, _&&_}
+use mathlib.Core.Bool.{not}
 use mathlib.Core.List.{List, [], _∷_, map}
 use Prim.Native.Nat.{ℕ}
-use borrow.Author.Tests.{eq-eqb}
 use lib.Dec.{T, T-not, eqb, eqb-refl}
 use lib.Ieee.Fits.{and-l, and-r}
 use lib.Ieee.Bits.{is-true}
+use lib.IntN.{ℤ}
 use Rattle.sheet.specs.Core.{Core}
 use Rattle.paths.specs.Laws.Pigeons.{NotIn, NoDup}
-use Rattle.loops.specs.Link.{Link, wire, path, upper, lower, ceiling, linkA, ValidLoop, NoPath}
+use Rattle.loops.specs.Link.{Link, wire, path, upper, lower, ceiling, linkA, sumK, ValidLoop, NoPath}
 use Rattle.loops.specs.Test.{Parsed, links, linksOf, validTest}
 use Rattle.loops.specs.Laws.Test.{links-told, test-sound}
 use Rattle.witness.specs.Laws.Plain.{valid-plain}
 use Rattle.periods.specs.Lags.{LoopGiven, PlainLoop}
-use Rattle.sums.specs.Test.{every, notInTest, noDupTest, noPathTest, onceTest, plainTest, givenTests}
-use Rattle.sums.specs.Laws.Finite.{each}
+use Rattle.sums.specs.Test.{every, notInTest, noDupTest, noPathTest, onceTest, plainTest, sumTest, givenTests}
+use Rattle.sums.specs.Laws.Finite.{each, same-told}
 
 module _ (c : Core) where
   not-in-told : (x : ℕ) (ys : List ℕ) → T (notInTest c x ys) → NotIn x ys
@@ -52,6 +52,9 @@ module _ (c : Core) where
 
       plain-told : T (plainTest c (linksOf words)) → NoPath c (v .first ∷ v .others)
       plain-told t = no-path-told (v .first ∷ v .others) (subst (λ (x : Parsed). T (plainTest c x)) read t)
+
+      pub sum-told : (sum : ℤ) → T (sumTest c sum (linksOf words)) → sumK c (v .first ∷ v .others) ≡ sum
+      sum-told sum t = same-told (sumK c (v .first ∷ v .others)) sum (subst (λ (x : Parsed). T (sumTest c sum x)) read t)
 
     valid-told : (p : ℕ) → T (every (givenTests c p words)) → ValidLoop c p words
     valid-told p t = test-sound c p words (is-true (validTest c p words) (each (givenTests c p words) t .0))

@@ -1,8 +1,7 @@
 -- A sheet that passes the tests is the moved sheet; a wire that passes is the first that would leave its limits.
 -- Assumes nothing.
-use mathlib.Core.Path.{_≡_, refl, sym, subst}
+use mathlib.Core.Path.{_≡_, refl}
 use mathlib.Core.Logic.{inl, inr}
-use mathlib.Core.Bool.{Bool, not}
 use mathlib.Core.List.{List, [], _∷_, _++_}
 use Prim.Native.Nat.{ℕ, _+_, _≤_, _<_}
 use native.Mathlib.Omega.{arith}
@@ -11,21 +10,19 @@ use lib.Dec.{T, T-not, eqb, ltb, ltb→lt, eqb→eq}
 use lib.Ieee.Fits.{and-i}
 use lib.IntN.{ℤ, pos, _-ℤ_}
 use lib.Signed.{leZ}
-use lib.ListN.{length, getD, take, List·getD-eq-default}
+use lib.ListN.{length, getD, List·getD-eq-default}
 use lib.Seq.{take-at}
 use Rattle.sheet.specs.Core.{coreOf, blocksIn, wiresIn, blockAt, wireAt, lowerIn, upperIn, registersIn}
 use Rattle.sheet.specs.Rules.{Rule, First, answer, stage}
-use Rattle.sheet.specs.Sheet.{frameRules}
 use Rattle.sheet.specs.Laws.Rules.{goes-on, place-found, search-stops}
-use Rattle.sheet.specs.Laws.Sheet.{framed-none}
 use Rattle.sheet.specs.declared.answer.Answer.{Answer}
 use Rattle.paths.specs.Questions.{SoundSheet, soundRules, roomRules}
 use Rattle.paths.specs.Laws.Questions.{sheet-sound}
 use Rattle.moves.specs.Lags.{lagsIn, movedBy, InRange, Fits, Permitted}
-use Rattle.moves.specs.Move.{Copied, MovedSheet, MoveOutcome, moveOutcome, lagRules, MoveDone, moveAfterFrame, MoveRight}
+use Rattle.moves.specs.Move.{Copied, MovedSheet, MoveOutcome, moveOutcome, lagRules, MoveDone, MoveRight}
 use Rattle.moves.specs.Laws.Questions.{permitted-none, move-rest, move-forbidden}
 use Rattle.sums.specs.Lines.{over}
-use Rattle.sums.specs.Test.{every, allBelow, sameZ, copiedTest, movedTests, rangeTests, fitTests, leavesTests}
+use Rattle.sums.specs.Test.{every, sameZ, copiedTest, movedTests, rangeTests, fitTests, leavesTests}
 use Rattle.sums.specs.Laws.Finite.{each, all-below, same-told}
 use Rattle.sums.specs.Laws.Lags.{range-told, fits-told}
 use Rattle.sums.specs.Laws.Over.{over-long, over-past}

@@ -1,7 +1,6 @@
 -- A sheet that passes the test is sound.
 -- Assumes nothing.
-use mathlib.Core.Path.{_≡_, refl, sym, ap, _∙_}
-use mathlib.Core.Bool.{Bool, true}
+use mathlib.Core.Path.{_≡_, ap}
 use mathlib.Core.List.{List, [], _∷_}
 use Prim.Native.Nat.{ℕ, _+_, _≤_, _<_}
 use native.Mathlib.Omega.{arith}
@@ -10,11 +9,11 @@ use lib.Dec.{T, eqb, ltb, leb→le, ltb→lt, eqb→eq}
 use lib.IntN.{ℤ, pos, negsuc, _-ℤ_}
 use lib.ListN.{length, getD}
 use Rattle.sheet.specs.Core.{shapeOf, blocksIn, wiresIn, delayIn, lowerIn, upperIn, fromIn, toIn, registersIn, spareIn}
-use Rattle.sheet.specs.Sheet.{BlockRule, WireRule, Framed, FormedSheet}
+use Rattle.sheet.specs.Sheet.{BlockRule, WireRule, Framed}
 use Rattle.paths.specs.Path.{Joins, registersOn}
 use Rattle.paths.specs.Table.{LoopAt}
 use Rattle.paths.specs.Questions.{SoundSheet}
-use Rattle.sums.specs.Test.{every, implies, allBelow, frameTests, hostTests, blockTests, wireTests, ranks, rankTest, soundTests, soundTest}
+use Rattle.sums.specs.Test.{every, frameTests, hostTests, blockTests, wireTests, ranks, rankTest, soundTests, soundTest}
 use Rattle.sums.specs.Laws.Finite.{each, implied, all-below, le-told, same-told}
 
 module _ (s : List ℕ) where
