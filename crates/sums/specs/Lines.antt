@@ -106,7 +106,7 @@ pub data Line : Type 0 where
   meet : (s : List ℕ) (c : ℕ) (lags larger : List ℤ) → Line
   -- lags at period c: refusal 11, with this loop; the permitted lags are not claimed
   slow : (s : List ℕ) (c : ℕ) (words : List ℕ) (permitted : List ℤ) → Line
-  -- refusal 10 in both lag questions, with this loop
+  -- refusal 10 in both lag questions, with this loop; the loop check says yes to it at every period
   stuck : (s : List ℕ) (words : List ℕ) → Line
   -- check a loop: yes, with this sum of the k's; and 12
   loopYes : (s : List ℕ) (c : ℕ) (words : List ℕ) (sum : ℤ) → Line
@@ -152,6 +152,7 @@ right (slow s c words permitted) = Lent s (λ l w. LagsRight s c l w (lagsOutcom
 right (stuck s words) =
     Lent s (λ l w. BestRight s l w (lagsOutcome (answer 10 0 (length words)) l (over words w)))
     × ((c : ℕ) → Lent s (λ l w. LagsRight s c l w (lagsOutcome (answer 10 0 (length words)) l (over words w))))
+    × ((c : ℕ) → LoopRight s c words (answer 0 0 0))
 right (loopYes s c words sum) = LoopRight s c words (answer 0 0 0) × ((v : ValidLoop (coreOf s) c words) → sumK (coreOf s) (v .first ∷ v .others) ≡ sum)
 right (loopNo s c words) = LoopRight s c words (answer 12 0 0)
 right (moves s lags moved) = LentSheet s (λ l. MoveRight s lags l (moveOutcome (answer 0 0 0) (over moved l)))
@@ -209,7 +210,6 @@ table =
     ∷ best narrowRing 12 lags0000 ([] ∷ (L.wire 1 ∷ L.wire 2 ∷ L.upper 3 ∷ []) ∷ (L.wire 2 ∷ L.upper 3 ∷ []) ∷ (L.upper 3 ∷ []) ∷ []) (4 ∷ 1 ∷ 2 ∷ 1 ∷ 2 ∷ 1 ∷ 2 ∷ 3 ∷ 3 ∷ [])
     -- "block 1 limited to 1..1 and block 3 to -2..0: refusal 10. Words 4 1, 1 1, 1 2, 3 3 are valid."
     ∷ stuck stuckRing stuckWords
-    ∷ loopYes stuckRing 12 stuckWords (less 1)
     -- "lag -1 gives 0, 2, 1; lag -2 gives refusal 9 at wire 0; lag 1 gives refusal 9 at wire 2"
     ∷ moves pair (pos 0 ∷ less 1 ∷ []) (pairWith (less 1) (pos 3) 0 2 1)
     ∷ leaves pair (pos 0 ∷ less 2 ∷ []) 0

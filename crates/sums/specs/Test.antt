@@ -43,6 +43,24 @@ times zero f x = x
 times (suc k) f x = f k (times k f x)
 
 -- ---- a sound sheet
+abbrev pub hostTests : ℕ → ℤ → ℤ → List Bool
+hostTests d l u = eqb d 0 ∷ sameZ l (pos 0) ∷ sameZ u (pos 0) ∷ []
+
+abbrev pub blockTests : ℕ → ℕ → ℤ → ℤ → List Bool
+blockTests b d l u =
+    leb d 10000
+    ∷ leZ (negsuc 999) l
+    ∷ leZ l (pos 1000)
+    ∷ leZ (negsuc 999) u
+    ∷ leZ u (pos 1000)
+    ∷ leZ l u
+    ∷ leZ (u -ℤ l) (pos 1000)
+    ∷ implies (eqb b 0) (every (hostTests d l u))
+    ∷ []
+
+abbrev pub wireTests : ℕ → ℕ → ℕ → ℕ → ℕ → List Bool
+wireTests n f t w z = ltb f n ∷ ltb t n ∷ leb w 2000 ∷ eqb z 0 ∷ []
+
 module _ (s : List ℕ) where
   abbrev pub frameTests : List Bool
   frameTests =
@@ -54,24 +72,6 @@ module _ (s : List ℕ) where
       ∷ eqb (u32At s 12) (16 + 8 * blocksIn s + 8 * wiresIn s)
       ∷ eqb (length s) (16 + 8 * blocksIn s + 8 * wiresIn s)
       ∷ []
-
-  abbrev pub hostTests : ℕ → ℤ → ℤ → List Bool
-  hostTests d l u = eqb d 0 ∷ sameZ l (pos 0) ∷ sameZ u (pos 0) ∷ []
-
-  abbrev pub blockTests : ℕ → ℕ → ℤ → ℤ → List Bool
-  blockTests b d l u =
-      leb d 10000
-      ∷ leZ (negsuc 999) l
-      ∷ leZ l (pos 1000)
-      ∷ leZ (negsuc 999) u
-      ∷ leZ u (pos 1000)
-      ∷ leZ l u
-      ∷ leZ (u -ℤ l) (pos 1000)
-      ∷ implies (eqb b 0) (every (hostTests d l u))
-      ∷ []
-
-  abbrev pub wireTests : ℕ → ℕ → ℕ → ℕ → ℕ → List Bool
-  wireTests n f t w z = ltb f n ∷ ltb t n ∷ leb w 2000 ∷ eqb z 0 ∷ []
 
   -- ranks: each wire without a register leads to a block of higher rank, so there is no register-free loop
   abbrev raise : ℕ → List ℕ → List ℕ
@@ -106,6 +106,23 @@ wiresOf (by ws) = ws
 -- fewer registers, or as many and at least the delay
 abbrev pub aheadTest : ℕ → ℕ → ℕ → ℕ → Bool
 aheadTest W D W′ D′ = cond (ltb W W′) true (eqb W W′ && leb D′ D)
+
+-- ---- lists of numbers, and of links
+abbrev pub notInTest : ℕ → List ℕ → Bool
+notInTest x [] = true
+notInTest x (y ∷ ys) = not (eqb x y) && notInTest x ys
+
+abbrev pub noDupTest : List ℕ → Bool
+noDupTest [] = true
+noDupTest (x ∷ xs) = notInTest x xs && noDupTest xs
+
+abbrev pub noPathTest : List Link → Bool
+noPathTest [] = true
+noPathTest (wire j ∷ ls) = noPathTest ls
+noPathTest (path u ws ∷ ls) = false
+noPathTest (upper b ∷ ls) = noPathTest ls
+noPathTest (lower b ∷ ls) = noPathTest ls
+noPathTest (ceiling j ∷ ls) = noPathTest ls
 
 module _ (c : Core) where
   module _ (u : ℕ) where
@@ -200,22 +217,6 @@ module _ (c : Core) where
       largestTests p why = every (meetTests p) ∷ allBelow (c .shape .n) (λ b. every (heldTests p why b)) ∷ []
 
   -- ---- loops
-  abbrev pub notInTest : ℕ → List ℕ → Bool
-  notInTest x [] = true
-  notInTest x (y ∷ ys) = not (eqb x y) && notInTest x ys
-
-  abbrev pub noDupTest : List ℕ → Bool
-  noDupTest [] = true
-  noDupTest (x ∷ xs) = notInTest x xs && noDupTest xs
-
-  abbrev pub noPathTest : List Link → Bool
-  noPathTest [] = true
-  noPathTest (wire j ∷ ls) = noPathTest ls
-  noPathTest (path u ws ∷ ls) = false
-  noPathTest (upper b ∷ ls) = noPathTest ls
-  noPathTest (lower b ∷ ls) = noPathTest ls
-  noPathTest (ceiling j ∷ ls) = noPathTest ls
-
   -- no block twice as an a; no link of kind 2
   abbrev pub onceTest : Parsed → Bool
   onceTest (links l ls) = noDupTest (map (linkA c) (l ∷ ls))

@@ -171,6 +171,7 @@ told (stuck s words) t =
     let few = few-of (coreOf s) 0 words (g .1 .0) in (
       λ l w i j. asked-best s h l w i j _ (best-none s l w _ none (words-over s h l w i j 10 (PlainLoop (coreOf s)) words k few)),
       λ c l w i j. asked-lags s h l w i j c _ (lags-none s l w _ c none (words-over s h l w i j 10 (PlainLoop (coreOf s)) words k few)),
+      λ c. loop-rest s c words (answer 0 0 0) (h .formed .framed) (loop-yes s c words (sheet-sound s h) (k .given c .valid)),
     )
 told (loopYes s c words sum) t =
     let g = each (tests (loopYes s c words sum)) t in

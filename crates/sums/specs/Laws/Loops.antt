@@ -18,22 +18,22 @@ use Rattle.periods.specs.Lags.{LoopGiven, PlainLoop}
 use Rattle.sums.specs.Test.{every, notInTest, noDupTest, noPathTest, onceTest, plainTest, sumTest, givenTests}
 use Rattle.sums.specs.Laws.Finite.{each, same-told}
 
+not-in-told : (x : ℕ) (ys : List ℕ) → T (notInTest x ys) → NotIn x ys
+not-in-told x [] t = tt
+not-in-told x (y ∷ ys) t =
+    let a = not (eqb x y) in
+    let b = notInTest x ys in
+    (λ e. T-not (eqb x y) (and-l a b t) (subst (λ (k : ℕ). T (eqb x k)) e (eqb-refl x)), not-in-told x ys (and-r a b t))
+
+no-dup-told : (xs : List ℕ) → T (noDupTest xs) → NoDup xs
+no-dup-told [] t = tt
+no-dup-told (x ∷ xs) t =
+    let a = notInTest x xs in
+    let b = noDupTest xs in
+    (not-in-told x xs (and-l a b t), no-dup-told xs (and-r a b t))
+
 module _ (c : Core) where
-  not-in-told : (x : ℕ) (ys : List ℕ) → T (notInTest c x ys) → NotIn x ys
-  not-in-told x [] t = tt
-  not-in-told x (y ∷ ys) t =
-      let a = not (eqb x y) in
-      let b = notInTest c x ys in
-      (λ e. T-not (eqb x y) (and-l a b t) (subst (λ (k : ℕ). T (eqb x k)) e (eqb-refl x)), not-in-told x ys (and-r a b t))
-
-  no-dup-told : (xs : List ℕ) → T (noDupTest c xs) → NoDup xs
-  no-dup-told [] t = tt
-  no-dup-told (x ∷ xs) t =
-      let a = notInTest c x xs in
-      let b = noDupTest c xs in
-      (not-in-told x xs (and-l a b t), no-dup-told xs (and-r a b t))
-
-  no-path-told : (ls : List Link) → T (noPathTest c ls) → NoPath c ls
+  no-path-told : (ls : List Link) → T (noPathTest ls) → NoPath c ls
   no-path-told [] t = tt
   no-path-told (wire j ∷ ls) t = no-path-told ls t
   no-path-told (path u ws ∷ ls) t = t

@@ -3,10 +3,11 @@
 use mathlib.Core.Path.{_≡_, refl, sym, subst}
 use mathlib.Core.Bool.{true}
 use mathlib.Core.List.{List, [], _∷_}
+use Prim.Native.Nat.{ℕ}
 use lib.Dec.{T}
 use lib.Ieee.Bits.{is-true}
 use lib.Ieee.Fits.{and-l, and-r}
-use Rattle.sums.specs.Lines.{Line, AllRight, table}
+use Rattle.sums.specs.Lines.{Line, ring, AllRight, table}
 use Rattle.sums.specs.Test.{test, testAll}
 use Rattle.sums.specs.Laws.Line.{test-sound}
 
@@ -20,3 +21,21 @@ all-right (x ∷ xs) t = (test-sound x (is-true (test x) (and-l (test x) (testAl
 
 pub p-table : AllRight table
 p-table = all-right table (subst T (sym passes) tt)
+
+-- the ring's 80 bytes as 01 lays them out: header, blocks, wires
+abbrev ringBytes : List ℕ
+ringBytes =
+    4 ∷ 0 ∷ 4 ∷ 0 ∷ 16 ∷ 0 ∷ 0 ∷ 0
+    ∷ 48 ∷ 0 ∷ 0 ∷ 0 ∷ 80 ∷ 0 ∷ 0 ∷ 0
+    ∷ 0 ∷ 0 ∷ 0 ∷ 0 ∷ 0 ∷ 0 ∷ 0 ∷ 0
+    ∷ 3 ∷ 0 ∷ 0 ∷ 0 ∷ 254 ∷ 255 ∷ 2 ∷ 0
+    ∷ 4 ∷ 0 ∷ 0 ∷ 0 ∷ 254 ∷ 255 ∷ 2 ∷ 0
+    ∷ 5 ∷ 0 ∷ 0 ∷ 0 ∷ 254 ∷ 255 ∷ 2 ∷ 0
+    ∷ 0 ∷ 0 ∷ 1 ∷ 0 ∷ 1 ∷ 0 ∷ 0 ∷ 0
+    ∷ 1 ∷ 0 ∷ 2 ∷ 0 ∷ 0 ∷ 0 ∷ 0 ∷ 0
+    ∷ 2 ∷ 0 ∷ 3 ∷ 0 ∷ 0 ∷ 0 ∷ 0 ∷ 0
+    ∷ 3 ∷ 0 ∷ 0 ∷ 0 ∷ 1 ∷ 0 ∷ 0 ∷ 0
+    ∷ []
+
+ring-bytes : ring ≡ ringBytes
+ring-bytes = refl
