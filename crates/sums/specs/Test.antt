@@ -1,7 +1,7 @@
--- A test of a line that computes: specs/Laws/Line.antt proves that a line that passes is right.
+-- A test of a line that computes. Nobody has to believe it: specs/Laws/Line.antt proves that a line that passes is right.
 use mathlib.Core.Bool.{Bool, true, false, _&&_, not, cond}
 use mathlib.Core.List.{List, [], _∷_, _++_, map}
-use Prim.Native.Nat.{ℕ, zero, suc, _+_, _*_, _-_}
+use Prim.Native.Nat.{ℕ, zero, suc, _+_, _*_}
 use lib.Dec.{ltb, leb, eqb}
 use lib.IntN.{ℤ, pos, negsuc, _-ℤ_}
 use lib.Signed.{leZ, ltZ}
@@ -94,7 +94,18 @@ module _ (s : List ℕ) where
   abbrev pub soundTest : Bool
   soundTest = every (soundTests ranks)
 
--- ---- the path table: a path for each pair, found by rounds over all wires
+-- ---- permitted lags
+module _ (c : Core) (r : ℕ → ℤ) where
+  abbrev pub rangeTests : ℕ → List Bool
+  rangeTests b = leZ (c .lower b) (r b) ∷ leZ (r b) (c .upper b) ∷ []
+
+  abbrev pub fitTests : ℕ → List Bool
+  fitTests j = leZ (pos 0) (movedBy c r j) ∷ leZ (movedBy c r j) (pos (c .ceiling j)) ∷ []
+
+  abbrev pub permittedTests : List Bool
+  permittedTests = allBelow (c .shape .n) (λ b. every (rangeTests b)) ∷ allBelow (c .shape .m) (λ j. every (fitTests j)) ∷ []
+
+-- ---- the path table: a path for each pair, found by rounds over all wires; however they were found, `tableTest` judges them
 pub data Found : Type 0 where
   far : Found
   by : List ℕ → Found
@@ -106,23 +117,6 @@ wiresOf (by ws) = ws
 -- fewer registers, or as many and at least the delay
 abbrev pub aheadTest : ℕ → ℕ → ℕ → ℕ → Bool
 aheadTest W D W′ D′ = cond (ltb W W′) true (eqb W W′ && leb D′ D)
-
--- ---- lists of numbers, and of links
-abbrev pub notInTest : ℕ → List ℕ → Bool
-notInTest x [] = true
-notInTest x (y ∷ ys) = not (eqb x y) && notInTest x ys
-
-abbrev pub noDupTest : List ℕ → Bool
-noDupTest [] = true
-noDupTest (x ∷ xs) = notInTest x xs && noDupTest xs
-
-abbrev pub noPathTest : List Link → Bool
-noPathTest [] = true
-noPathTest (wire j ∷ ls) = noPathTest ls
-noPathTest (path u ws ∷ ls) = false
-noPathTest (upper b ∷ ls) = noPathTest ls
-noPathTest (lower b ∷ ls) = noPathTest ls
-noPathTest (ceiling j ∷ ls) = noPathTest ls
 
 module _ (c : Core) where
   module _ (u : ℕ) where
@@ -144,17 +138,6 @@ module _ (c : Core) where
 
   abbrev pub rows : List (List (List ℕ))
   rows = times (c .shape .n) (λ u found. found ++ (row u ∷ [])) []
-
-  -- ---- permitted lags
-  module _ (r : ℕ → ℤ) where
-    abbrev pub rangeTests : ℕ → List Bool
-    rangeTests b = leZ (c .lower b) (r b) ∷ leZ (r b) (c .upper b) ∷ []
-
-    abbrev pub fitTests : ℕ → List Bool
-    fitTests j = leZ (pos 0) (movedBy c r j) ∷ leZ (movedBy c r j) (pos (c .ceiling j)) ∷ []
-
-    abbrev pub permittedTests : List Bool
-    permittedTests = allBelow (c .shape .n) (λ b. every (rangeTests b)) ∷ allBelow (c .shape .m) (λ j. every (fitTests j)) ∷ []
 
   -- the paths P of a table: each leads where it should, and no wire improves an entry
   module _ (P : ℕ → ℕ → List ℕ) where
@@ -208,7 +191,7 @@ module _ (c : Core) where
       slowTest p u v = implies (ltb p (delayTo u v)) (leZ (r u -ℤ r v) (pos (registersTo u v) -ℤ pos 1))
 
       abbrev pub meetTests : ℕ → List Bool
-      meetTests p = tableTest ∷ every (permittedTests r) ∷ allBelow (c .shape .n) (λ u. allBelow (c .shape .n) (slowTest p u)) ∷ []
+      meetTests p = tableTest ∷ every (permittedTests c r) ∷ allBelow (c .shape .n) (λ u. allBelow (c .shape .n) (slowTest p u)) ∷ []
 
       abbrev pub heldTests : ℕ → Chains → ℕ → List Bool
       heldTests p why b = chainTest c p b (getD why b []) 0 ∷ sameZ (sumK c (getD why b [])) (r b) ∷ []
@@ -216,8 +199,25 @@ module _ (c : Core) where
       abbrev pub largestTests : ℕ → Chains → List Bool
       largestTests p why = every (meetTests p) ∷ allBelow (c .shape .n) (λ b. every (heldTests p why b)) ∷ []
 
-  -- ---- loops
-  -- no block twice as an a; no link of kind 2
+-- ---- loops
+abbrev pub notInTest : ℕ → List ℕ → Bool
+notInTest x [] = true
+notInTest x (y ∷ ys) = not (eqb x y) && notInTest x ys
+
+abbrev pub noDupTest : List ℕ → Bool
+noDupTest [] = true
+noDupTest (x ∷ xs) = notInTest x xs && noDupTest xs
+
+abbrev pub noPathTest : List Link → Bool
+noPathTest [] = true
+noPathTest (wire j ∷ ls) = noPathTest ls
+noPathTest (path u ws ∷ ls) = false
+noPathTest (upper b ∷ ls) = noPathTest ls
+noPathTest (lower b ∷ ls) = noPathTest ls
+noPathTest (ceiling j ∷ ls) = noPathTest ls
+
+module _ (c : Core) where
+  -- no block twice as an a; no link of kind 2; the sum of the k's
   abbrev pub onceTest : Parsed → Bool
   onceTest (links l ls) = noDupTest (map (linkA c) (l ∷ ls))
   onceTest unreadable = false
@@ -265,6 +265,7 @@ leavesTests c r k =
 abbrev pub pathsOf : List ℕ → ℕ → ℕ → List ℕ
 pathsOf s u v = getD (getD (rows (coreOf s)) u []) v []
 
+-- nowhere above, and somewhere below
 abbrev pub lessTests : ℕ → (ℕ → ℤ) → (ℕ → ℤ) → List Bool
 lessTests n r q = allBelow n (λ b. leZ (r b) (q b)) ∷ someBelow n (λ b. ltZ (r b) (q b)) ∷ []
 
