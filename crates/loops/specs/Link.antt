@@ -6,8 +6,7 @@ use lib.IntN.{ℤ, pos, negℤ, _+ℤ_, _-ℤ_}
 use lib.Signed.{_<ℤ_}
 use lib.ListN.{length}
 use Rattle.sheet.specs.Core.{Core}
-use Rattle.paths.specs.Path.{Joins, registersOn, delayOn}
-use Rattle.paths.specs.Laws.Path.{endOf}
+use Rattle.paths.specs.Path.{Joins, registersOn, delayOn, endOf}
 
 -- 01: "A loop is a non-empty chain of links of five kinds."
 pub data Link : Type 0 where

@@ -6,8 +6,7 @@ use Prim.Native.Nat.{ℕ, _+_, _*_, _<_, _≤_}
 use lib.ListN.{length, take, drop}
 use Rattle.sheet.specs.Core.{coreOf, shapeOf, blocksIn, wiresIn, delayIn, fromIn, toIn, registersIn}
 use Rattle.sheet.specs.Laws.Integer.{up, down}
-use Rattle.paths.specs.Path.{Joins, registersOn, delayOn}
-use Rattle.paths.specs.Laws.Path.{endOf}
+use Rattle.paths.specs.Path.{Joins, registersOn, delayOn, endOf}
 use Rattle.loops.specs.Link.{Link, wire, path, upper, lower, ceiling, wordsOf, allWords, linkA, linkB, linkK, Good, Chain, sumK}
 use Rattle.loops.specs.declared.link.Link as D
 use Rattle.loops.specs.declared.link.Link.the-variants as L

@@ -2,7 +2,8 @@
 ghost use mathlib.Core.Path.{_≡_};
 ghost use Prim.Native.Nat.{ℕ};
 ghost use lib.ListN.{length};
-ghost use Rattle.sheet.specs.Core.{blocksIn, wiresIn, delayIn, fromIn, toIn, registersIn};
+ghost use Rattle.sheet.specs.Lag.{excess};
+ghost use Rattle.sheet.specs.Core.{blocksIn, wiresIn, delayIn, lowerIn, upperIn, fromIn, toIn, registersIn};
 ghost use Rattle.sheet.specs.Sheet.{FormedSheet};
 ghost use Rattle.sheet.specs.Filled.{filled};
 use crate::block::BlockRead;
@@ -20,6 +21,22 @@ pub fn load_delays(s: &[u8], n: usize, delays: &mut [u32; 64])
             return;
         };
         delays[b] = delay;
+        b += 1;
+    }
+}
+
+// Both lag limits of each block, as excess numbers.
+pub fn load_limits(s: &[u8], n: usize, lower: &mut [u32; 64], upper: &mut [u32; 64])
+    requires { ⌜ FormedSheet (now s) × (n ≡ blocksIn (now s)) × (length (now lower) ≡ 64) × (length (now upper) ≡ 64) ⌝ }
+    ensures { λ _. ⌜ (now (lower .exit) ≡ filled (λ b. excess (lowerIn (now (s .entry)) b)) n (now (lower .entry))) × (now (upper .exit) ≡ filled (λ b. excess (upperIn (now (s .entry)) b)) n (now (upper .entry))) ⌝ }
+{
+    let mut b = 0;
+    while b < n {
+        let BlockRead::Block(_, low, high) = read_block(s, b) else {
+            return;
+        };
+        lower[b] = low;
+        upper[b] = high;
         b += 1;
     }
 }

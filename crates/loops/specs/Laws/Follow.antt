@@ -11,8 +11,8 @@ use lib.IntN.{pos}
 use Rattle.sheet.specs.Core.{shapeOf, blocksIn, wiresIn, delayIn, fromIn, toIn, registersIn}
 use Rattle.sheet.specs.Laws.Integer.{minus}
 use Rattle.sheet.specs.Reads.{BlockIs, WireIs}
-use Rattle.paths.specs.Path.{Joins, registersOn}
-use Rattle.paths.specs.Laws.Path.{endOf, passes-all, between-passes, joins-snoc, joins-end, joins-right, joins-start-lt, registers-snoc, delay-snoc}
+use Rattle.paths.specs.Path.{Joins, registersOn, endOf}
+use Rattle.paths.specs.Laws.Path.{passes-all, between-passes, joins-snoc, joins-end, joins-right, joins-start-lt, registers-snoc, delay-snoc}
 use Rattle.loops.specs.Link.{path}
 use Rattle.loops.specs.Reads.{PathHead, LinkGiven, StepIs, StepGiven, Followed, FollowGiven}
 use Rattle.loops.specs.Laws.Links.{not-good}

@@ -16,8 +16,7 @@ use Rattle.sheet.specs.Laws.Integer.{up, down, plus, minus, negated, le-parts, 
 use Rattle.sheet.specs.Laws.Rules.{past}
 use Rattle.sheet.specs.Laws.Formed.{formed-core, frame-nonzero}
 use Rattle.sheet.specs.declared.answer.Answer.{Answer}
-use Rattle.paths.specs.Path.{Joins, registersOn, delayOn}
-use Rattle.paths.specs.Laws.Path.{endOf}
+use Rattle.paths.specs.Path.{Joins, registersOn, delayOn, endOf}
 use Rattle.paths.specs.Questions.{soundRules}
 use Rattle.paths.specs.Laws.Questions.{sound-nonzero, sound-sheet}
 use Rattle.moves.specs.Lags.{movedBy, Permitted, Meets}

@@ -12,8 +12,8 @@ use lib.Signed.{ltZ, _<ℤ_}
 use lib.ListN.{length, take, drop, length-append, take-append-drop}
 use lib.Seq.{take-append-seam, drop-append-seam, length-take-le}
 use Rattle.sheet.specs.Core.{Core, Shape}
-use Rattle.paths.specs.Path.{Passes, Onward, Joins, delayOn}
-use Rattle.paths.specs.Laws.Path.{passes-all, endOf}
+use Rattle.paths.specs.Path.{Passes, Onward, Joins, delayOn, endOf}
+use Rattle.paths.specs.Laws.Path.{passes-all}
 use Rattle.loops.specs.Link.{Link, wire, path, upper, lower, ceiling, wordsOf, allWords, linkA, linkB, Good, Chain, sumK, ValidLoop}
 use Rattle.loops.specs.Test.{Lead, lead, none, pathLead, pathAt, kindAt, linkAt, Parsed, links, unreadable, before, linksFrom, linksOf, passesTest, onwardTest, joinsTest, goodTest, chainTest, loopTest, validTest}
 use Rattle.loops.specs.Laws.Words.{spelt-long}

@@ -11,11 +11,11 @@ use native.Mathlib.Numerals.{add-one}
 use lib.ListN.{length, getD, set, replicate, length-replicate, length-append}
 use Rattle.sheet.specs.Core.{Shape}
 use Rattle.sheet.specs.Filled.{filled}
-use Rattle.paths.specs.Path.{Passes, Joins, registersOn, delayOn}
+use Rattle.paths.specs.Path.{Passes, Joins, registersOn, delayOn, endOf}
 use Rattle.paths.specs.Lists.{held}
 use Rattle.paths.specs.Table.{LoopAt, Way, Best, Entry, best, none}
 use Rattle.paths.specs.Row.{baseW, baseD, offerW, offerD, Row, Relaxed, RowRight}
-use Rattle.paths.specs.Laws.Path.{passes-all, endOf, joins-left, joins-right, joins-append, joins-start-lt, joins-end, joins-ends, joins-snoc, between-passes, registers-append, registers-snoc, delay-snoc, Last, nil, snoc, last}
+use Rattle.paths.specs.Laws.Path.{passes-all, joins-left, joins-right, joins-append, joins-start-lt, joins-end, joins-ends, joins-snoc, between-passes, registers-append, registers-snoc, delay-snoc, Last, nil, snoc, last}
 use Rattle.paths.specs.Laws.Pigeons.{NotIn, NoDup, AllBelow, pigeons}
 use Rattle.paths.specs.Laws.Ahead.{Ahead, ahead-or}
 use Rattle.paths.specs.Laws.Simple.{passed, passed-below, length-passed, Leads, leads, Loop, simple-or-loop, cut-joins, cut-fewer, cut}

@@ -6,7 +6,7 @@ use Prim.Native.Nat.{ℕ, suc, _+_, _≤_, _<_}
 use native.Mathlib.Omega.{arith}
 use lib.ListN.{length}
 use Rattle.sheet.specs.Core.{Shape}
-use Rattle.paths.specs.Path.{Passes, Onward, Joins, registersOn, delayOn}
+use Rattle.paths.specs.Path.{Passes, Onward, Joins, registersOn, delayOn, endOf}
 
 -- today every block may be passed: the one place that says so
 pub passes-all : (s : Shape) (b : ℕ) → Passes s b
@@ -22,12 +22,7 @@ pub registers-snoc : (w : ℕ → ℕ) (ws : List ℕ) (j : ℕ) → registersOn
 registers-snoc w ws j = omega (arith, registers-append w ws (j ∷ []))
 
 module _ (s : Shape) where
-  -- a path's last block: the start and the wires tell it
-  abbrev pub endOf : ℕ → List ℕ → ℕ
-  endOf u [] = u
-  endOf u (j ∷ ws) = endOf (s .to j) ws
-
-  pub joins-end : (u : ℕ) (ws : List ℕ) (v : ℕ) → Joins s u ws v → endOf u ws ≡ v
+  pub joins-end : (u : ℕ) (ws : List ℕ) (v : ℕ) → Joins s u ws v → endOf s u ws ≡ v
   joins-end u [] v h = h .1
   joins-end u (j ∷ ws) v h = joins-end (s .to j) ws v (h .4)
 
@@ -39,7 +34,7 @@ module _ (s : Shape) where
   joins-end-lt u [] v h = omega arith
   joins-end-lt u (j ∷ ws) v h = joins-end-lt (s .to j) ws v (h .4)
 
-  pub end-append : (u : ℕ) (ws xs : List ℕ) → endOf u (ws ++ xs) ≡ endOf (endOf u ws) xs
+  pub end-append : (u : ℕ) (ws xs : List ℕ) → endOf s u (ws ++ xs) ≡ endOf s (endOf s u ws) xs
   end-append u [] xs = refl
   end-append u (j ∷ ws) xs = end-append (s .to j) ws xs
 
@@ -75,23 +70,23 @@ module _ (s : Shape) where
   onward-left b [] xs o = tt
   onward-left b (k ∷ ws) xs o = o
 
-  pub joins-left : (u : ℕ) (ws xs : List ℕ) (z : ℕ) → Joins s u (ws ++ xs) z → Joins s u ws (endOf u ws)
+  pub joins-left : (u : ℕ) (ws xs : List ℕ) (z : ℕ) → Joins s u (ws ++ xs) z → Joins s u ws (endOf s u ws)
   joins-left u [] xs z h = (joins-start-lt u xs z h, refl)
   joins-left u (j ∷ ws) xs z h = (h .0, h .1, h .2, onward-left (s .to j) ws xs (h .3), joins-left (s .to j) ws xs z (h .4))
 
-  pub joins-right : (u : ℕ) (ws xs : List ℕ) (z : ℕ) → Joins s u (ws ++ xs) z → Joins s (endOf u ws) xs z
+  pub joins-right : (u : ℕ) (ws xs : List ℕ) (z : ℕ) → Joins s u (ws ++ xs) z → Joins s (endOf s u ws) xs z
   joins-right u [] xs z h = h
   joins-right u (j ∷ ws) xs z h = joins-right (s .to j) ws xs z (h .4)
 
-  onward-end : (b : ℕ) (ws xs : List ℕ) (z : ℕ) → Onward s b (ws ++ xs) → Joins s b (ws ++ xs) z → Onward s (endOf b ws) xs
+  onward-end : (b : ℕ) (ws xs : List ℕ) (z : ℕ) → Onward s b (ws ++ xs) → Joins s b (ws ++ xs) z → Onward s (endOf s b ws) xs
   onward-end b [] xs z o h = o
   onward-end b (k ∷ ws) xs z o h = onward-end (s .to k) ws xs z (h .3) (h .4)
 
-  pub joins-between : (u : ℕ) (ws xs : List ℕ) (z : ℕ) → Joins s u (ws ++ xs) z → Between ws (endOf u ws) xs
+  pub joins-between : (u : ℕ) (ws xs : List ℕ) (z : ℕ) → Joins s u (ws ++ xs) z → Between ws (endOf s u ws) xs
   joins-between u [] xs z h = tt
   joins-between u (j ∷ ws) xs z h = onward-end (s .to j) ws xs z (h .3) (h .4)
 
-  pub delay-append : (u : ℕ) (ws xs : List ℕ) → delayOn s u (ws ++ xs) + s .delay (endOf u ws) ≡ delayOn s u ws + delayOn s (endOf u ws) xs
+  pub delay-append : (u : ℕ) (ws xs : List ℕ) → delayOn s u (ws ++ xs) + s .delay (endOf s u ws) ≡ delayOn s u ws + delayOn s (endOf s u ws) xs
   delay-append u [] xs = omega arith
   delay-append u (j ∷ ws) xs = omega (arith, delay-append (s .to j) ws xs)
 
@@ -112,7 +107,7 @@ module _ (s : Shape) where
   pub joins-ends : (u : ℕ) (ws : List ℕ) (j v : ℕ) → Joins s u (ws ++ (j ∷ [])) v → Ends u ws j v
   joins-ends u ws j v h =
       let q = joins-right u ws (j ∷ []) v h in
-      let e : s .from j ≡ endOf u ws = q .2 in
+      let e : s .from j ≡ endOf s u ws = q .2 in
       record {
         rest = rw e (joins-left u ws (j ∷ []) v h);
         wire = q .1;

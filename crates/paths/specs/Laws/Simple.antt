@@ -8,9 +8,9 @@ use native.Mathlib.Decide.{ℕ-discrete, decLe}
 use native.Mathlib.Omega.{arith}
 use lib.ListN.{length, length-append, length-map}
 use Rattle.sheet.specs.Core.{Shape}
-use Rattle.paths.specs.Path.{Passes, Onward, Joins, registersOn, delayOn}
+use Rattle.paths.specs.Path.{Passes, Onward, Joins, registersOn, delayOn, endOf}
 use Rattle.paths.specs.Table.{LoopAt}
-use Rattle.paths.specs.Laws.Path.{endOf, end-append, joins-end, joins-append, joins-left, joins-right, joins-between, joins-start-lt, joins-end-lt, between-passes, registers-append, passes-all}
+use Rattle.paths.specs.Laws.Path.{end-append, joins-end, joins-append, joins-left, joins-right, joins-between, joins-start-lt, joins-end-lt, between-passes, registers-append, passes-all}
 use Rattle.paths.specs.Laws.Pigeons.{NotIn, NoDup, AllBelow, pigeons}
 
 -- a wire at the end makes a list that has a first one

@@ -11,7 +11,8 @@ use lib.Seq.{sets}
 use Rattle.sheet.specs.Core.{Core}
 use Rattle.sheet.specs.Sheet.{Formed}
 use Rattle.sheet.specs.Laws.Integer.{up, down}
-use Rattle.paths.specs.Laws.Path.{endOf, joins-start-lt}
+use Rattle.paths.specs.Path.{endOf}
+use Rattle.paths.specs.Laws.Path.{joins-start-lt}
 use Rattle.paths.specs.Laws.Pigeons.{NotIn, NoDup, AllBelow, pigeons}
 use Rattle.loops.specs.Link.{Link, wire, path, upper, lower, ceiling, wordsOf, allWords, linkA, linkB, Good, Chain, NoPath}
 use Rattle.loops.specs.Laws.Chain.{chain-append, sum-snoc}
