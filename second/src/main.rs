@@ -13,6 +13,7 @@ mod record;
 mod refute;
 mod shapes;
 mod sheet;
+mod through;
 #[cfg(test)]
 mod trial;
 
@@ -22,7 +23,7 @@ use std::str::FromStr;
 use std::{env, fs, io};
 
 const USAGE: &str = "usage: second cases DIR | second one FILE | second lags FILE C | second move FILE LAG... \
-                     | second loop FILE C WORD... | second fast-bench COUNT SEED";
+                     | second loop FILE C WORD... | second fast-bench COUNT SEED | second through DRIVER COUNT SEED";
 
 fn write_cases(dir: &Path) -> io::Result<()> {
     let (mut input, mut expected) = (Vec::new(), String::new());
@@ -139,6 +140,10 @@ fn main() -> ExitCode {
                 bench::run(count, seed);
                 Ok(())
             }
+            _ => return bad_usage(),
+        },
+        ["through", driver, count, seed] => match (count.parse(), seed.parse()) {
+            (Ok(count), Ok(seed)) => through::run(driver, count, seed),
             _ => return bad_usage(),
         },
         _ => return bad_usage(),
