@@ -9,6 +9,7 @@ macro_rules! library {
         }
         $(
             #[cfg(not(lezvorgan_linked))]
+            #[allow(clippy::too_many_arguments)]
             pub unsafe fn $name($($argument: $kind),*) -> u32 {
                 let _ = ($($argument,)*);
                 panic!("the library is x86-64 code and was not linked on this processor")

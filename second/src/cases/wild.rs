@@ -28,8 +28,8 @@ fn shape(rng: &mut Random, n: usize) -> Sheet {
     let closing = rng.below(n);
     match rng.below(12) {
         0 => shapes::ring(rng, n, closing, delay),
-        1 => shapes::chain(rng, n, most, delay, closing % 2 == 0),
-        2 => shapes::tree(rng, n, most, delay, closing % 2 == 0),
+        1 => shapes::chain(rng, n, most, delay, closing < n / 2),
+        2 => shapes::tree(rng, n, most, delay, closing < n / 2),
         3 => shapes::layers(rng, n, m, 1 + closing, most, delay),
         4 => shapes::parallel(rng, n, 2, most.min(1_998), delay),
         5 => shapes::hub(rng, n.max(2), delay),
