@@ -1,11 +1,16 @@
 -- The solver at work on a sheet: where it may start, where it rests, and what one run of it gives.
 use mathlib.Core.Path.{_≡_}
-use mathlib.Core.List.{List}
+use mathlib.Core.List.{List, _++_}
+use lib.IntN.{ℤ}
 use Prim.Native.Nat.{ℕ}
 use Rattle.sheet.specs.Core.{coreOf}
-use Rattle.sheet.specs.Rules.{answer}
+use Rattle.sheet.specs.Rules.{Rule, answer, stage}
 use Rattle.sheet.specs.declared.answer.Stage.{Stage}
 use Rattle.sheet.specs.declared.answer.Stage.the-variants.{Pass, Refuse}
+use Rattle.paths.specs.Questions.{soundRules}
+use Rattle.periods.specs.Questions.{LagsOutcome, lagsOutcome, lagRoom, lagsLast, bestLast}
+use Rattle.periods.specs.declared.lags.Aim.{Aim}
+use Rattle.periods.specs.declared.lags.Aim.the-variants as A
 use Rattle.solver.specs.System.{Given}
 use Rattle.solver.specs.State.{State, Lists, AllHold}
 use Rattle.witness.specs.Stands.{Stands}
@@ -30,3 +35,11 @@ Ran s n m p number lower from to wires ceilings registers delays e par up w w′
 
 pub record Solved (s : List ℕ) (n m p number : ℕ) (lower from to wires ceilings registers delays e par up w w′ : List ℕ) (r : Stage) : Type 0 where
   pub ran : Ran s n m p number lower from to wires ceilings registers delays e par up w w′ r
+
+-- ---- both lag questions at once: what is asked for tells the last rules
+abbrev pub lastOf : List ℕ → Aim → List ℤ → List ℕ → List (Rule LagsOutcome)
+lastOf s (A.At c) l w = lagsLast s c l w
+lastOf s A.Least l w = bestLast s l w
+
+abbrev pub afterFrameOf : List ℕ → Aim → List ℤ → List ℕ → List (Rule LagsOutcome)
+afterFrameOf s aim l w = stage (λ a. lagsOutcome a l w) (lagRoom s l w) ++ (stage (λ a. lagsOutcome a l w) (soundRules s) ++ lastOf s aim l w)

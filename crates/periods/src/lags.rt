@@ -1,6 +1,7 @@
-// The lags question, once the header is right: the solver is run without path rules, then with those of the period.
+// The two lag questions, once the header is right: the solver is run without path rules, then with those of a period.
 ghost use mathlib.Core.Path.{_≡_};
 ghost use Prim.Native.Nat.{ℕ, _+_, _*_, _<_, _≤_};
+ghost use mathlib.Core.List.{List};
 ghost use lib.ListN.{length};
 ghost use Rattle.sheet.specs.Core.{blocksIn, wiresIn};
 ghost use Rattle.sheet.specs.Rules.{First, answer};
@@ -8,8 +9,8 @@ ghost use Rattle.sheet.specs.Sheet.{Framed};
 ghost use Rattle.paths.specs.Questions.{SoundSheet};
 ghost use Rattle.solver.specs.Laws.Begun as B;
 ghost use Rattle.periods.specs.Load.{Room};
-ghost use Rattle.periods.specs.Questions.{lagsOutcome, lagsLast, lagsAfterFrame};
-ghost use Rattle.periods.specs.Solving.{Solving, Resting, Solved};
+ghost use Rattle.periods.specs.Questions.{lagsOutcome, lagsLast, bestLast};
+ghost use Rattle.periods.specs.Solving.{Solving, Resting, Solved, lastOf, afterFrameOf};
 use crate::load::load;
 use crate::load::write_lags;
 use paths::sound::check_sound;
@@ -18,8 +19,15 @@ use sheet::answer::Stage;
 use sheet::answer::done;
 use sheet::answer::refusal;
 use solver::End;
+use solver::least::least;
 use solver::settle;
 use witness::write_loop;
+
+// Which period the lags are asked for.
+pub enum Aim {
+    At(u32),
+    Least,
+}
 
 // 01: "A refusal's value is 0, except the word count with 10 and 11."
 fn counted(number: u32, count: usize) -> Answer
@@ -179,12 +187,112 @@ fn lags_within(
     done(0)
 }
 
-// Lags at period c of a sound sheet, in lists of its own.
-fn lags_held(
+// From the largest permitted lags down to the largest that meet the least period.
+fn best_within(
     s: &[u8],
     n: usize,
     m: usize,
-    c: u32,
+    lower: &[u32; 64],
+    from: &[usize; 256],
+    to: &[usize; 256],
+    wires: &[u32; 256],
+    ceilings: &[u32; 256],
+    registers: &[u32; 4096],
+    delays: &[u32; 4096],
+    e: &mut [u32; 64],
+    par: &mut [usize; 64],
+    up: &mut [usize; 64],
+    lags: &mut [i16],
+) -> Answer
+    requires { ⌜ n ≤ length (now lags) ⌝ }
+    requires { ⌜ Resting (now s) n m 4294967295 (now lower) (now from) (now to) (now wires) (now ceilings) (now registers) (now delays) (now e) (now par) (now up) ⌝ }
+    ensures { λ r. ⌜ ((w : List ℕ) → First (bestLast (now (s .entry)) (now (lags .entry)) w) (lagsOutcome r (now (lags .exit)) w)) ⌝ }
+{
+    let period = least(
+        n,
+        m,
+        lower,
+        from,
+        to,
+        wires,
+        ceilings,
+        registers,
+        delays,
+        e,
+        par,
+        up,
+    );
+    write_lags(n, e, lags);
+    done(period)
+}
+
+// From the largest permitted lags to what is asked for.
+fn aimed(
+    s: &[u8],
+    n: usize,
+    m: usize,
+    aim: Aim,
+    lower: &[u32; 64],
+    from: &[usize; 256],
+    to: &[usize; 256],
+    wires: &[u32; 256],
+    ceilings: &[u32; 256],
+    registers: &[u32; 4096],
+    delays: &[u32; 4096],
+    e: &mut [u32; 64],
+    par: &mut [usize; 64],
+    up: &mut [usize; 64],
+    lags: &mut [i16],
+    words: &mut [u16],
+) -> Answer
+    requires { ⌜ (n ≤ length (now lags)) × (n * (n + 2) ≤ length (now words)) ⌝ }
+    requires { ⌜ Resting (now s) n m 4294967295 (now lower) (now from) (now to) (now wires) (now ceilings) (now registers) (now delays) (now e) (now par) (now up) ⌝ }
+    ensures { λ r. ⌜ First (lastOf (now (s .entry)) aim (now (lags .entry)) (now (words .entry))) (lagsOutcome r (now (lags .exit)) (now (words .exit))) ⌝ }
+{
+    match aim {
+        Aim::At(c) => lags_within(
+            s,
+            n,
+            m,
+            c,
+            lower,
+            from,
+            to,
+            wires,
+            ceilings,
+            registers,
+            delays,
+            e,
+            par,
+            up,
+            lags,
+            words,
+        ),
+        Aim::Least => best_within(
+            s,
+            n,
+            m,
+            lower,
+            from,
+            to,
+            wires,
+            ceilings,
+            registers,
+            delays,
+            e,
+            par,
+            up,
+            lags,
+        ),
+    }
+}
+
+// A lag question on a sound sheet, in lists of its own.
+fn asked_held(
+    s: &[u8],
+    n: usize,
+    m: usize,
+    aim: Aim,
     lower: &mut [u32; 64],
     from: &mut [usize; 256],
     to: &mut [usize; 256],
@@ -200,7 +308,7 @@ fn lags_held(
 ) -> Answer
     requires { ⌜ SoundSheet (now s) × (n ≡ blocksIn (now s)) × (m ≡ wiresIn (now s)) × Room (now lower) (now e) (now from) (now to) (now wires) (now ceilings) (now registers) (now delays) ⌝ }
     requires { ⌜ (now par ≡ B.none) × (now up ≡ B.none) × (n ≤ length (now lags)) × (n * (n + 2) ≤ length (now words)) ⌝ }
-    ensures { λ r. ⌜ First (lagsLast (now (s .entry)) c (now (lags .entry)) (now (words .entry))) (lagsOutcome r (now (lags .exit)) (now (words .exit))) ⌝ }
+    ensures { λ r. ⌜ First (lastOf (now (s .entry)) aim (now (lags .entry)) (now (words .entry))) (lagsOutcome r (now (lags .exit)) (now (words .exit))) ⌝ }
 {
     if let Stage::Refuse(a) = permit(
         s,
@@ -220,11 +328,11 @@ fn lags_held(
     ) {
         return a;
     }
-    lags_within(
+    aimed(
         s,
         n,
         m,
-        c,
+        aim,
         lower,
         from,
         to,
@@ -240,9 +348,16 @@ fn lags_held(
     )
 }
 
-fn lags_sound(s: &[u8], n: usize, m: usize, c: u32, lags: &mut [i16], words: &mut [u16]) -> Answer
+fn asked_sound(
+    s: &[u8],
+    n: usize,
+    m: usize,
+    aim: Aim,
+    lags: &mut [i16],
+    words: &mut [u16],
+) -> Answer
     requires { ⌜ SoundSheet (now s) × (n ≡ blocksIn (now s)) × (m ≡ wiresIn (now s)) × (n ≤ length (now lags)) × (n * (n + 2) ≤ length (now words)) ⌝ }
-    ensures { λ r. ⌜ First (lagsLast (now (s .entry)) c (now (lags .entry)) (now (words .entry))) (lagsOutcome r (now (lags .exit)) (now (words .exit))) ⌝ }
+    ensures { λ r. ⌜ First (lastOf (now (s .entry)) aim (now (lags .entry)) (now (words .entry))) (lagsOutcome r (now (lags .exit)) (now (words .exit))) ⌝ }
 {
     let mut lower = [0u32; 64];
     let mut from = [0usize; 256];
@@ -254,11 +369,11 @@ fn lags_sound(s: &[u8], n: usize, m: usize, c: u32, lags: &mut [i16], words: &mu
     let mut e = [0u32; 64];
     let mut par = [0usize; 64];
     let mut up = [0usize; 64];
-    lags_held(
+    asked_held(
         s,
         n,
         m,
-        c,
+        aim,
         &mut lower,
         &mut from,
         &mut to,
@@ -274,17 +389,17 @@ fn lags_sound(s: &[u8], n: usize, m: usize, c: u32, lags: &mut [i16], words: &mu
     )
 }
 
-// Lags at period c of a sheet whose header is right.
-pub fn lags_framed(
+// A lag question on a sheet whose header is right.
+pub fn asked_framed(
     s: &[u8],
     n: usize,
     m: usize,
-    c: u32,
+    aim: Aim,
     lags: &mut [i16],
     words: &mut [u16],
 ) -> Answer
     requires { ⌜ Framed (now s) × (n ≡ blocksIn (now s)) × (m ≡ wiresIn (now s)) ⌝ }
-    ensures { λ r. ⌜ First (lagsAfterFrame (now (s .entry)) c (now (lags .entry)) (now (words .entry))) (lagsOutcome r (now (lags .exit)) (now (words .exit))) ⌝ }
+    ensures { λ r. ⌜ First (afterFrameOf (now (s .entry)) aim (now (lags .entry)) (now (words .entry))) (lagsOutcome r (now (lags .exit)) (now (words .exit))) ⌝ }
 {
     if lags.len() < n {
         return refusal(4, 0);
@@ -295,5 +410,5 @@ pub fn lags_framed(
     if let Stage::Refuse(a) = check_sound(s, n, m) {
         return a;
     }
-    lags_sound(s, n, m, c, lags, words)
+    asked_sound(s, n, m, aim, lags, words)
 }

@@ -1,15 +1,16 @@
-// Periods and lags: the period as it stands, and lags at a period. They are answered from what the path table promises.
+// Periods and lags: the period as it stands, lags at a period, best period. They are answered from what the path table promises.
 ghost use mathlib.Core.Path.{_≡_};
 ghost use lib.ListN.{length};
 ghost use Rattle.periods.specs.Longest.{Longest, Longer};
-ghost use Rattle.periods.specs.Questions.{PeriodRight, LagsRight, lagsOutcome};
+ghost use Rattle.periods.specs.Questions.{PeriodRight, LagsRight, BestRight, lagsOutcome};
+use crate::lags::Aim;
 use paths::path_table;
 use sheet::answer::Answer;
 use sheet::answer::done;
 use sheet::frame::Frame;
 use sheet::frame::read_frame;
 
-mod lags; // lags at a period
+mod lags; // lags at a period, and at the least one
 mod load; // the lists of the solver, and the lags that it found
 
 // The longer delay, where d counts only with 0 registers.
@@ -58,6 +59,16 @@ pub fn lags_at(sheet: &[u8], c: u32, lags: &mut [i16], words: &mut [u16]) -> Ans
 {
     match read_frame(sheet) {
         Frame::Refused(a) => a,
-        Frame::Counts(n, m) => lags::lags_framed(sheet, n, m, c, lags, words),
+        Frame::Counts(n, m) => lags::asked_framed(sheet, n, m, Aim::At(c), lags, words),
+    }
+}
+
+// Best period: the least that permitted lags meet, as the value, and the largest lags that meet it.
+pub fn best(sheet: &[u8], lags: &mut [i16], words: &mut [u16]) -> Answer
+    ensures { λ r. ⌜ BestRight (now (sheet .entry)) (now (lags .entry)) (now (words .entry)) (lagsOutcome r (now (lags .exit)) (now (words .exit))) ⌝ }
+{
+    match read_frame(sheet) {
+        Frame::Refused(a) => a,
+        Frame::Counts(n, m) => lags::asked_framed(sheet, n, m, Aim::Least, lags, words),
     }
 }

@@ -20,19 +20,24 @@ use Rattle.paths.specs.Questions.{SoundSheet}
 use Rattle.moves.specs.Lags.{lagsIn, Permitted}
 use Rattle.solver.specs.System.{Given, given, atPeriod}
 use Rattle.solver.specs.State.{State, Lists, Stuck, AllHold, Settled}
+use Rattle.solver.specs.Least.{LeastRest}
 use Rattle.solver.specs.Laws.Begun.{begun, state-stays}
+use Rattle.solver.specs.Laws.Least.{lists-at}
 use Rattle.solver.specs.Laws.Begun as B
 use Rattle.solver.specs.declared.End.{End}
 use Rattle.solver.specs.declared.End.the-variants as E
 use Rattle.witness.specs.Written.{LoopWritten}
 use Rattle.witness.specs.Walked.{Halted}
-use Rattle.periods.specs.Lags.{Largest}
+use Rattle.periods.specs.Lags.{Largest, Least}
 use Rattle.periods.specs.Load.{Held}
-use Rattle.periods.specs.Solving.{Solving, Resting, Ran, Solved}
-use Rattle.periods.specs.Questions.{LagsOutcome, lagsOutcome, lagsLast}
-use Rattle.periods.specs.Laws.Solved.{rest-largest, stands-at, largest-same}
-use Rattle.periods.specs.Laws.Asked.{lags-done}
-use Rattle.periods.specs.Laws.Loops.{refused-none, refused-slow}
+use Rattle.periods.specs.Solving.{Solving, Resting, Ran, Solved, lastOf}
+use Rattle.periods.specs.Questions.{LagsOutcome, lagsOutcome, lagsLast, LagsDone, bestLast}
+use Rattle.periods.specs.declared.lags.Aim.{Aim}
+use Rattle.periods.specs.declared.lags.Aim.the-variants as A
+use Rattle.periods.specs.Laws.Rules.{meets-keeps}
+use Rattle.periods.specs.Laws.Solved.{solution-of, rest-largest, stands-at, largest-same}
+use Rattle.periods.specs.Laws.Asked.{lags-done, best-done}
+use Rattle.periods.specs.Laws.Loops.{refused-none, best-refused-none, refused-slow}
 
 -- ---- how the rounds ended, once the case is known
 module _ (g : Given) (e par up : List ℕ) (r : End) (h : Settled g e par up r) where
@@ -160,23 +165,53 @@ module _ {s lower from to wires ceilings registers delays e par up : List ℕ} {
     written : (b : ℕ) → b < blocksIn s → lagOf (getD e b 0) ≡ lagsIn l′ b
     written b h = sym (ap (λ (x : List ℤ). getD x b (pos 0)) filled-is ∙ filled-at (λ i. lagOf (getD e i 0)) n l b (pos 0) (omega (arith, blocks)) long)
 
+    done-written : (value : ℕ) → w′ ≡ w → LagsDone s p value l w (lagsOutcome (answer 0 0 value) l′ w′)
+    done-written value q = record {
+      says-done = refl;
+      largest = largest-same (coreOf s) (formed-core s (R .solving .stands .sound .formed)) p (λ b. lagOf (getD e b 0)) (lagsIn l′) written resting-largest;
+      lags-kept = record {
+        long = ap length filled-is ∙ length-filled (λ b. lagOf (getD e b 0)) n l;
+        past = λ i h. ap (λ (x : List ℤ). getD x i (pos 0)) filled-is ∙ filled-past (λ b. lagOf (getD e b 0)) n l i (pos 0) (omega (arith, blocks));
+      };
+      words-kept = q;
+    }
+
     pub lags-written : w′ ≡ w → First (lagsLast s p l w) (lagsOutcome (answer 0 0 0) l′ w′)
-    lags-written q =
-        lags-done s l w (lagsOutcome (answer 0 0 0) l′ w′) p
-        (record {
-          says-done = refl;
-          largest = largest-same (coreOf s) (formed-core s (R .solving .stands .sound .formed)) p (λ b. lagOf (getD e b 0)) (lagsIn l′) written resting-largest;
-          lags-kept = record {
-            long = ap length filled-is ∙ length-filled (λ b. lagOf (getD e b 0)) n l;
-            past = λ i h. ap (λ (x : List ℤ). getD x i (pos 0)) filled-is ∙ filled-past (λ b. lagOf (getD e b 0)) n l i (pos 0) (omega (arith, blocks));
-          };
-          words-kept = q;
-        })
+    lags-written q = lags-done s l w (lagsOutcome (answer 0 0 0) l′ w′) p (done-written 0 q)
+
+    pub best-written : w′ ≡ w → Least (coreOf s) p → First (bestLast s l w) (lagsOutcome (answer 0 0 p) l′ w′)
+    best-written q h = best-done s l w (lagsOutcome (answer 0 0 p) l′ w′) (record { period = p; least = h; done = done-written p q })
+
+-- ---- the search for the least period ends at rest there
+module _ {s lower from to wires ceilings registers delays e₀ par₀ up₀ : List ℕ} {n m p₀ : ℕ} (R : Resting s n m p₀ lower from to wires ceilings registers delays e₀ par₀ up₀) where
+  pub lists-rest : Lists (R .solving .g) lower from to wires ceilings registers delays n m (R .solving .g .period)
+  lists-rest = subst (Lists (R .solving .g) lower from to wires ceilings registers delays n m) (R .solving .lists .period-is) (R .solving .lists)
+
+  module _ {e par up : List ℕ} {p : ℕ} (L : LeastRest (R .solving .g) p e par up) where
+    least-rests : Resting s n m p lower from to wires ceilings registers delays e par up
+    least-rests = record {
+      solving = record { g = atPeriod (R .solving .g) p; stands = stands-at (R .solving .stands) p; state = L .rest .state; lists = lists-at lists-rest p };
+      rest = L .rest .all;
+    }
+
+    is-least : Least (coreOf s) p
+    is-least = record {
+      lags = λ b. lagOf (getD e b 0);
+      met = resting-largest least-rests .meets;
+      least = λ q r m. L .least q _ (solution-of (stands-at (R .solving .stands) q) r (meets-keeps (coreOf s) q r m));
+    }
+
+    pub least-writes : (k : ℕ) → n ≤ k → (n ≤ 64) × (length e ≡ 64) × (n ≤ k) × ((b : ℕ) → b < n → getD e b 0 < 65536)
+    least-writes k long = (resting-few least-rests, L .rest .state .e-long, long, resting-small least-rests)
+
+    pub least-done : (l l′ : List ℤ) (w : List ℕ) → n ≤ length l → l′ ≡ filled (λ b. lagOf (getD e b 0)) n l → First (bestLast s l w) (lagsOutcome (answer 0 0 p) l′ w)
+    least-done l l′ w long f = best-written least-rests l l′ w w long f refl is-least
 
 -- ---- refusals: the first run finds that no permitted lags exist, a later one that none meets the period
 module _ {s lower from to wires ceilings registers delays e par up w w′ : List ℕ} {n m : ℕ} {r : Stage} (l : List ℤ) (a : Answer) (q : r ≡ Refuse a) where
-  pub first-refuses : (c : ℕ) → SoundSheet s → Solved s n m 4294967295 10 lower from to wires ceilings registers delays e par up w w′ r → First (lagsLast s c l w) (lagsOutcome a l w′)
-  first-refuses c S h = let t = solved-refuses h a q in refused-none s S l w w′ a (t .0) (t .1) (t .2) c
+  pub first-refuses : (aim : Aim) → SoundSheet s → Solved s n m 4294967295 10 lower from to wires ceilings registers delays e par up w w′ r → First (lastOf s aim l w) (lagsOutcome a l w′)
+  first-refuses (A.At c) S h = let t = solved-refuses h a q in refused-none s S l w w′ a (t .0) (t .1) (t .2) c
+  first-refuses A.Least S h = let t = solved-refuses h a q in best-refused-none s S l w w′ a (t .0) (t .1) (t .2)
 
   pub later-refuses : {e₀ par₀ up₀ : List ℕ} {c : ℕ} → Resting s n m 4294967295 lower from to wires ceilings registers delays e₀ par₀ up₀ → Solved s n m c 11 lower from to wires ceilings registers delays e par up w w′ r → First (lagsLast s c l w) (lagsOutcome a l w′)
   later-refuses {c = c} R h = let t = solved-refuses h a q in refused-slow s (R .solving .stands .sound) l w w′ a (t .0) c (t .1) (t .2) _ (resting-permitted R)
@@ -190,9 +225,6 @@ module _ {s lower from to wires ceilings registers delays e par up w w′ : List
   pub later-done : (l l′ : List ℤ) → n ≤ length l → l′ ≡ filled (λ b. lagOf (getD e b 0)) n l → First (lagsLast s p l w) (lagsOutcome (answer 0 0 0) l′ w′)
   later-done l l′ long f = let R = solved-rests h q in lags-written (R .0) l l′ w w′ long f (R .1)
 
-  -- the words are as they were: what the next run needs, and what it then gives
+  -- the words are as they were: what the next run needs
   pub first-rests : (k : ℕ) → n ≤ k → n * (n + 2) ≤ length w → ((n ≤ k) × (n * (n + 2) ≤ length w′)) × Resting s n m p lower from to wires ceilings registers delays e par up
   first-rests k long room = let R = solved-rests h q in ((long, rw (R .1) room), R .0)
-
-  pub first-kept : (c : ℕ) (l : List ℤ) (o : LagsOutcome) → First (lagsLast s c l w′) o → First (lagsLast s c l w) o
-  first-kept c l o f = rw (solved-rests h q .1) at f

@@ -1,6 +1,5 @@
 -- The solver goes on from the largest permitted lags with the period's path rules.
 use native.Mathlib.Omega.{arith}
-use native.Mathlib.Omega.{arith}
 use Rattle.periods.specs.Laws.Solving.{goes-on, later-refuses, later-writes, later-done}
 use borrow.Author.Needs.{needs}
 use Rattle.periods.proofs.lags.lags_within.Statement.{statement}

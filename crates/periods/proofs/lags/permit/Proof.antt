@@ -1,6 +1,5 @@
 -- The lists are loaded, then the solver is run without path rules.
 use native.Mathlib.Omega.{arith}
-use native.Mathlib.Omega.{arith}
 use Rattle.periods.specs.Laws.Solving.{begins}
 use borrow.Author.Needs.{needs}
 use Rattle.periods.proofs.lags.permit.Statement.{statement}

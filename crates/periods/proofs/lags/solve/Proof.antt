@@ -1,6 +1,5 @@
 -- The solver rests, or the loop is written from where it stopped.
 use native.Mathlib.Omega.{arith}
-use native.Mathlib.Omega.{arith}
 use mathlib.Core.Path.{refl}
 use Rattle.periods.specs.Laws.Solving.{rests, halts, loop-written, few-words}
 use borrow.Author.Needs.{needs}

@@ -1,6 +1,5 @@
 -- The lists hold the sheet's numbers and its path table.
 use native.Mathlib.Omega.{arith}
-use native.Mathlib.Omega.{arith}
 use mathlib.Core.Path.{_≡_}
 use Prim.Native.Nat.{ℕ}
 use lib.ListN.{length-replicate}
