@@ -44,8 +44,8 @@ static void show_move(const uint8_t *before, const uint8_t *after) {
 
 int main(void) {
     static const uint16_t loop[] = {2, 1, 1, 1, 2, 2, 1, 2, 2, 3, 2, 3, 0};
-    uint8_t sheet[BYTES], moved[BYTES];
-    int16_t lags[BLOCKS];
+    uint8_t sheet[BYTES], moved[BYTES] = {0};
+    int16_t lags[BLOCKS] = {0};
     uint16_t words[BLOCKS * (BLOCKS + 2)];
     uint32_t place, value, number;
 

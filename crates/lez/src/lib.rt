@@ -4,7 +4,7 @@ ghost use Rattle.sheet.specs.Rules.{answer};
 ghost use Rattle.paths.specs.Questions.{CheckRight, TableRight, tableOutcome};
 ghost use Rattle.moves.specs.Move.{MoveRight, moveOutcome};
 ghost use Rattle.loops.specs.Loop.{LoopRight};
-ghost use Rattle.periods.specs.Questions.{PeriodRight};
+ghost use Rattle.periods.specs.Questions.{PeriodRight, LagsRight, BestRight, lagsOutcome};
 use sheet::answer::Answer;
 
 // Writes place and value where the caller wants them, and gives the number.
@@ -69,7 +69,9 @@ pub extern "C" fn lez_lags_at(
     words: &mut [u16],
     place: &mut u32,
     value: &mut u32,
-) -> u32 {
+) -> u32
+    ensures { λ r. ⌜ LagsRight (now (sheet .entry)) c (now (lags .entry)) (now (words .entry)) (lagsOutcome (answer r (now (place .exit)) (now (value .exit))) (now (lags .exit)) (now (words .exit))) ⌝ }
+{
     hand_over(periods::lags_at(sheet, c, lags, words), place, value)
 }
 
@@ -81,7 +83,9 @@ pub extern "C" fn lez_best(
     words: &mut [u16],
     place: &mut u32,
     value: &mut u32,
-) -> u32 {
+) -> u32
+    ensures { λ r. ⌜ BestRight (now (sheet .entry)) (now (lags .entry)) (now (words .entry)) (lagsOutcome (answer r (now (place .exit)) (now (value .exit))) (now (lags .exit)) (now (words .exit))) ⌝ }
+{
     hand_over(periods::best(sheet, lags, words), place, value)
 }
 
