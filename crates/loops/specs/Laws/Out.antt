@@ -37,7 +37,7 @@ module _ (c : Core) (f : Formed c) (r : ℕ → ℤ) (h : Permitted c r) where
   Keeps l = up (r (linkA c l)) + down (r (linkB c l)) + down (linkK c l) ≤ up (r (linkB c l)) + down (r (linkA c l)) + up (linkK c l)
 
   -- the host's lag is 0
-  host-zero : (up (r 0) ≡ 0) × (down (r 0) ≡ 0)
+  pub host-zero : (up (r 0) ≡ 0) × (down (r 0) ≡ 0)
   host-zero =
       let i = h .in-range 0 (f .some-block) in
       let g = f .block 0 (f .some-block) .host refl in
@@ -72,7 +72,7 @@ module _ (c : Core) (f : Formed c) (r : ℕ → ℤ) (h : Permitted c r) where
       ]
 
   -- rules along a chain add up
-  chain-kept : (p a : ℕ) (ls : List Link) (e : ℕ) → Chain c p a ls e → ((l : Link) → Good c p l → Keeps l)
+  pub chain-kept : (p a : ℕ) (ls : List Link) (e : ℕ) → Chain c p a ls e → ((l : Link) → Good c p l → Keeps l)
       → up (r a) + down (r e) + down (sumK c ls) ≤ up (r e) + down (r a) + up (sumK c ls)
   chain-kept p a [] e k all = omega (arith, ap (λ (b : ℕ). up (r b)) k, ap (λ (b : ℕ). down (r b)) k)
   chain-kept p a (l ∷ ls) e k all =
@@ -85,7 +85,7 @@ module _ (c : Core) (f : Formed c) (r : ℕ → ℤ) (h : Permitted c r) where
         plus (linkK c l) (sumK c ls),
       )
 
-  meets-keeps : (p : ℕ) → Meets c p r → (l : Link) → Good c p l → Keeps l
+  pub meets-keeps : (p : ℕ) → Meets c p r → (l : Link) → Good c p l → Keeps l
   meets-keeps p m (wire j) g = wire-kept j g
   meets-keeps p m (path u ws) g = path-kept p u ws m g
   meets-keeps p m (upper b) g = upper-kept b g

@@ -129,7 +129,7 @@ from-told (f ∷ fuel) l (m ∷ ls) h =
     ∙ ap (λ (x : Lead). before l (linksFrom fuel x)) (lead-told m (allWords ls))
     ∙ ap (before l) (from-told fuel m ls (omega (arith, shorter m (allWords ls))))
 
-links-told : (l : Link) (ls : List Link) → linksOf (allWords (l ∷ ls)) ≡ links l ls
+pub links-told : (l : Link) (ls : List Link) → linksOf (allWords (l ∷ ls)) ≡ links l ls
 links-told l ls =
     ap (linksFrom (allWords (l ∷ ls))) (lead-told l (allWords ls))
     ∙ from-told (allWords (l ∷ ls)) l ls (shorter l (allWords ls))
@@ -146,7 +146,7 @@ onward-sound : (s : Shape) (b : ℕ) (ws : List ℕ) → onwardTest s b ws ≡ t
 onward-sound s b [] e = tt
 onward-sound s b (j ∷ ws) e = passes-sound s b e
 
-joins-sound : (s : Shape) (u : ℕ) (ws : List ℕ) → joinsTest s u ws ≡ true → Joins s u ws (endOf s u ws)
+pub joins-sound : (s : Shape) (u : ℕ) (ws : List ℕ) → joinsTest s u ws ≡ true → Joins s u ws (endOf s u ws)
 joins-sound s u [] e = (ltb-true u (s .n) e, refl)
 joins-sound s u (j ∷ ws) e =
     let a0 = ltb u (s .n) in
@@ -193,7 +193,7 @@ module _ (c : Core) (p : ℕ) where
   good-sound (lower b) e = ltb-true b (c .shape .n) e
   good-sound (ceiling j) e = ltb-true j (c .shape .m) e
 
-  chain-sound : (a : ℕ) (ls : List Link) (z : ℕ) → chainTest c p a ls z ≡ true → Chain c p a ls z
+  pub chain-sound : (a : ℕ) (ls : List Link) (z : ℕ) → chainTest c p a ls z ≡ true → Chain c p a ls z
   chain-sound a [] z e = eqb-true a z e
   chain-sound a (l ∷ ls) z e =
       let a0 = eqb (linkA c l) a in
