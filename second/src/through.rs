@@ -170,7 +170,12 @@ fn differs(number: usize, case: &Case, why: &str, reply: Option<&Reply>) -> io::
 fn ask_batch(driver: &str, from: usize, cases: &[Case], counts: &mut Counts) -> io::Result<()> {
     let mut words = driver.split_whitespace();
     let program = words.next().ok_or_else(|| io::Error::other("no driver is named"))?;
-    let mut child = Command::new(program).args(words).stdin(Stdio::piped()).stdout(Stdio::piped()).spawn()?;
+    let mut child = Command::new(program)
+        .args(words)
+        .stdin(Stdio::piped())
+        .stdout(Stdio::piped())
+        .spawn()
+        .map_err(|error| io::Error::other(format!("{program}: {error}")))?;
     let mut to_child = child.stdin.take().expect("the child's input is a pipe");
     let mut lines = BufReader::new(child.stdout.take().expect("the child's output is a pipe")).lines();
     let mut input = Vec::new();

@@ -233,3 +233,37 @@ pub fn one(rng: &mut Random) -> Case {
         }
     }
 }
+
+#[cfg(test)]
+mod tests {
+    use super::*;
+
+    #[test]
+    fn every_answer_occurs() {
+        let mut seen = [[0usize; 13]; 8];
+        let mut rng = Random::new(1);
+        let mut text = String::new();
+        for _ in 0..4_000 {
+            let case = one(&mut rng);
+            seen[case.question as usize][case.expect(&mut text).number as usize] += 1;
+        }
+        let frame = [0, 1, 2, 3, 5, 6, 7];
+        let own: [&[usize]; 7] = [&[], &[], &[4], &[4, 8, 9], &[4, 10, 11], &[4, 10], &[12]];
+        for (i, own) in own.iter().enumerate() {
+            for &number in frame.iter().chain(own.iter()) {
+                assert!(seen[i + 1][number] > 0, "question {} answers {number}", i + 1);
+            }
+        }
+    }
+
+    fn cases(seed: u64) -> Vec<Case> {
+        let mut rng = Random::new(seed);
+        (0..50).map(|_| one(&mut rng)).collect()
+    }
+
+    #[test]
+    fn one_seed_gives_the_same_cases() {
+        assert_eq!(cases(3), cases(3));
+        assert_ne!(cases(3), cases(4));
+    }
+}
