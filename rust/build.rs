@@ -1,16 +1,10 @@
-//! Links the proved library where the processor is its own, x86-64; elsewhere the wrapper is only type-checked and its pure parts tested.
+//! Links the proved library where the processor is its own, x86-64, or where LEZVORGAN_LIB names the folder of one that
+//! suits; elsewhere the wrapper is only type-checked and its pure parts tested.
 
 use std::env;
-use std::path::PathBuf;
+use std::path::{Path, PathBuf};
 
-fn main() {
-    println!("cargo::rustc-check-cfg=cfg(lezvorgan_linked)");
-    println!("cargo::rerun-if-env-changed=LEZVORGAN_LIB");
-    if env::var("CARGO_CFG_TARGET_ARCH").as_deref() != Ok("x86_64") {
-        return;
-    }
-    let here = PathBuf::from(env::var("CARGO_MANIFEST_DIR").expect("cargo names the manifest's folder"));
-    let folder = env::var("LEZVORGAN_LIB").map_or(here.join("../target/staticlib"), PathBuf::from);
+fn link(folder: &Path) {
     let library = folder.join("liblez.a");
     println!("cargo::rerun-if-changed={}", library.display());
     if !library.is_file() {
@@ -19,4 +13,15 @@ fn main() {
     println!("cargo::rustc-link-search=native={}", folder.display());
     println!("cargo::rustc-link-lib=static=lez");
     println!("cargo::rustc-cfg=lezvorgan_linked");
+}
+
+fn main() {
+    println!("cargo::rustc-check-cfg=cfg(lezvorgan_linked)");
+    println!("cargo::rerun-if-env-changed=LEZVORGAN_LIB");
+    let here = PathBuf::from(env::var("CARGO_MANIFEST_DIR").expect("cargo names the manifest's folder"));
+    if let Ok(folder) = env::var("LEZVORGAN_LIB") {
+        link(Path::new(&folder));
+    } else if env::var("CARGO_CFG_TARGET_ARCH").as_deref() == Ok("x86_64") {
+        link(&here.join("../target/staticlib"));
+    }
 }
