@@ -13,11 +13,11 @@ use crate::sheet::{self, Sheet};
 
 /// Few sheets are large: the second program's own methods take their time on those.
 fn block_count(rng: &mut Random) -> usize {
-    match rng.below(1_000) {
-        0..=899 => 1 + rng.below(7),
-        900..=989 => 8 + rng.below(12),
-        990..=997 => 20 + rng.below(20),
-        _ => 41 + rng.below(24),
+    match rng.below(100) {
+        0..=84 => 1 + rng.below(7),
+        85..=95 => 8 + rng.below(12),
+        96..=97 => 20 + rng.below(20),
+        _ => 40 + rng.below(25),
     }
 }
 
