@@ -14,7 +14,7 @@ pub struct Kind {
     pub sheet: fn(&mut Random) -> Sheet,
 }
 
-fn with_ranges(mut sheet: Sheet, reach: i16) -> Sheet {
+pub fn with_ranges(mut sheet: Sheet, reach: i16) -> Sheet {
     for b in &mut sheet.blocks[1..] {
         (b.lower, b.upper) = (-reach, reach);
     }
@@ -62,7 +62,7 @@ pub const KINDS: [Kind; 8] = [
 ];
 
 /// The quickest of several runs, so that other work on the machine counts little.
-fn quickest(mut run: impl FnMut()) -> Duration {
+pub fn quickest(mut run: impl FnMut()) -> Duration {
     let mut once = || {
         let start = Instant::now();
         run();

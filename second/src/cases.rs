@@ -10,6 +10,7 @@ mod moves;
 mod periods;
 mod refused;
 mod sounds;
+pub mod wild;
 
 use crate::questions::loop_room;
 use crate::random::Random;

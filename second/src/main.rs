@@ -1,5 +1,6 @@
 //! The second program: `second cases DIR` writes the cases and expected answers, the other commands ask one sheet.
 
+mod against;
 mod bench;
 mod cases;
 mod fast;
@@ -13,6 +14,7 @@ mod record;
 mod refute;
 mod shapes;
 mod sheet;
+mod through;
 #[cfg(test)]
 mod trial;
 
@@ -22,7 +24,8 @@ use std::str::FromStr;
 use std::{env, fs, io};
 
 const USAGE: &str = "usage: second cases DIR | second one FILE | second lags FILE C | second move FILE LAG... \
-                     | second loop FILE C WORD... | second fast-bench COUNT SEED";
+                     | second loop FILE C WORD... | second fast-bench COUNT SEED | second against TIMER COUNT SEED \
+                     | second through DRIVER COUNT SEED";
 
 fn write_cases(dir: &Path) -> io::Result<()> {
     let (mut input, mut expected) = (Vec::new(), String::new());
@@ -139,6 +142,14 @@ fn main() -> ExitCode {
                 bench::run(count, seed);
                 Ok(())
             }
+            _ => return bad_usage(),
+        },
+        ["against", timer, count, seed] => match (count.parse(), seed.parse()) {
+            (Ok(count @ 1..), Ok(seed)) => against::run(timer, count, seed),
+            _ => return bad_usage(),
+        },
+        ["through", driver, count, seed] => match (count.parse(), seed.parse()) {
+            (Ok(count), Ok(seed)) => through::run(driver, count, seed),
             _ => return bad_usage(),
         },
         _ => return bad_usage(),

@@ -21,7 +21,7 @@ pub struct Case {
     pub given: Vec<u16>,
 }
 
-fn list_before(length: usize) -> Vec<u32> {
+pub fn list_before(length: usize) -> Vec<u32> {
     (0..length as u32).map(|i| BEFORE + i).collect()
 }
 
@@ -30,13 +30,18 @@ fn unchanged_from(list: &[u32], first: usize) -> bool {
 }
 
 /// What byte i of a lent sheet holds before the call.
-fn byte_before(i: usize) -> u8 {
+pub fn byte_before(i: usize) -> u8 {
     ((7 * i + 3) % 256) as u8
 }
 
 /// What lag i of a lent list holds before the call: a lag that no range has.
-fn lag_before(i: usize) -> i16 {
+pub fn lag_before(i: usize) -> i16 {
     (20_000 + i) as i16
+}
+
+/// What word i of a lent loop list holds before the call: a word that no loop has.
+pub fn word_before(i: usize) -> u16 {
+    (50_000 + i) as u16
 }
 
 fn head(out: &mut String, question: u8, answer: Answer) {
