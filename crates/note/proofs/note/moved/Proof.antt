@@ -1,58 +1,79 @@
+-- The moved sheet has the header of the sheet, and room for all its wires.
+use native.Mathlib.Omega.{arith}
+use native.Mathlib.Omega.{arith}
+use mathlib.Core.Path.{_≡_}
+use mathlib.Core.List.{List}
+use Prim.Native.Nat.{ℕ, _+_, _*_, _<_, _≤_}
+use lib.IntN.{ℤ}
+use lib.ListN.{length, length-replicate, replicate, take}
+use lib.Seq.{getD-take}
+use Rattle.sheet.specs.Core.{blocksIn, wiresIn}
+use Rattle.sheet.specs.Sheet.{Framed}
+use Rattle.sheet.specs.Laws.Sheet.{frame-read}
+use Rattle.sheet.specs.declared.answer.Answer.{Answer}
+use Rattle.moves.specs.Lags.{lagsIn}
+use Rattle.moves.specs.Move.{MoveRight, moveOutcome}
+use Rattle.moves.specs.Laws.Sheets.{same-blocks}
+use Rattle.moves.specs.Laws.Theorems.{move-means}
 use borrow.Author.Needs.{needs}
 use Rattle.note.proofs.note.moved.Statement.{statement}
 use Rattle.note.proofs.note.moved.Tie as tie
-use Rattle.note.proofs.note.moved.Reads as reads
-use Rattle.note.proofs.note.moved.Lts as lts
-use Rattle.moves.proofs.move_by.Reads as move-by-reads
-use Rattle.note.proofs.lines.lines.Reads as lines-reads
-use Rattle.records.proofs.out.refused.Reads as refused-reads
-use Rattle.sheet.proofs.frame.read_frame.Reads as read-frame-reads
 
--- src/note.rt:39:46
+-- a list that begins as the sheet's first bytes has its number of blocks
+blocks-of : (s t : List ℕ) → 1 < length s → blocksIn (take (length s) t) ≡ blocksIn t
+blocks-of s t h = omega (arith, getD-take (length s) t 0 0 (omega arith), getD-take (length s) t 1 0 h)
+
+placed : (s : List ℕ) (lags : List ℤ) (l t : List ℕ) (a : Answer) (n m : ℕ) → MoveRight s lags l (moveOutcome a t) → a .number ≡ 0 → length l ≡ 2576
+    → (n ≡ blocksIn s) × (m ≡ wiresIn s) × Framed s
+    → (n ≤ 64) × (m ≤ 256) × (n ≡ blocksIn s) × (n ≡ blocksIn t) × (16 + 8 * n + 8 * m ≤ length s) × (16 + 8 * n + 8 * m ≤ length t)
+placed s lags l t a n m h z k f =
+    let d = move-means s lags l (moveOutcome a t) h z .done in
+    let long = f .2 .offsets .whole in
+    let few = f .2 .few-blocks in
+    let wires = f .2 .few-wires in
+    let kept = d .rest .long in
+    let same = same-blocks s (lagsIn lags) (take (length s) t) (d .moved-sheet) in (
+      omega arith,
+      omega arith,
+      f .0,
+      omega (arith, same, blocks-of s t (omega arith)),
+      omega arith,
+      omega arith,
+    )
+
 slice-aggregate-move-by : tie.Need-slice-aggregate-move-by
 slice-aggregate-move-by c = search needs
 
--- src/note.rt:39:9
 move-by-requires : tie.Need-move-by-requires
 move-by-requires c κs = search needs
 
--- src/note.rt:42:9
 refused-requires : tie.Need-refused-requires
 refused-requires c κs = search needs
 
--- src/note.rt:43:9
 returns : tie.Need-returns
 returns c = search needs
 
--- src/note.rt:45:11
 read-frame-requires : tie.Need-read-frame-requires
 read-frame-requires c κs = search needs
 
--- src/note.rt:46:24
 enum-known-a : tie.Need-enum-known-a
 enum-known-a c = search needs
 
--- src/note.rt:46:30
 refused-requires-2 : tie.Need-refused-requires-2
 refused-requires-2 c κs = search needs
 
--- src/note.rt:47:23
 enum-known-n : tie.Need-enum-known-n
 enum-known-n c = search needs
 
--- src/note.rt:47:56
 slice-aggregate-lines : tie.Need-slice-aggregate-lines
 slice-aggregate-lines c = search needs
 
--- src/note.rt:47:32
 lines-requires : tie.Need-lines-requires
-lines-requires c κs = ?
+lines-requires c κs = placed (c .before .before .before .before .before .before .before .before .before .before .before .before .before .args .sheet .now) (c .before .before .before .before .before .before .before .before .before .before .before .before .before .args .lags .now) (replicate 2576 0) _ _ _ _ (c .before .before .before .before .before .before .before .before .before .move-by .ensures) (omega arith) (length-replicate {A = ℕ} 2576 0) (frame-read (c .before .before .before .before .before .before .before .before .before .before .before .before .before .args .sheet .now) (c .before .before .before .before .before .before .read-frame .result) _ _ (c .before .before .before .before .before .before .read-frame .ensures) (c .before .before .before .before .n .given .1))
 
--- src/note.rt:28:1
 returns-2 : tie.Need-returns-2
 returns-2 c = search needs
 
--- src/note.rt:28:1
 returns-3 : tie.Need-returns-3
 returns-3 c = search needs
 
