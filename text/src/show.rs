@@ -15,7 +15,10 @@ fn u32_at(sheet: &[u8], at: usize) -> u32 {
 /// The numbers of blocks and wires, where the header is that of a sheet with these tables.
 fn counts(sheet: &[u8]) -> Result<(usize, usize), String> {
     if sheet.len() < HEADER {
-        return Err(format!("a sheet has a header of {HEADER} bytes, and here are {}", sheet.len()));
+        return Err(format!(
+            "a sheet has a header of {HEADER} bytes, and here are {}",
+            sheet.len()
+        ));
     }
     let (n, m) = (usize::from(u16_at(sheet, 0)), usize::from(u16_at(sheet, 2)));
     let (wires, total) = (HEADER + 8 * n, HEADER + 8 * n + 8 * m);
@@ -28,7 +31,10 @@ fn counts(sheet: &[u8]) -> Result<(usize, usize), String> {
     }
     match sheet.len() == total {
         true => Ok((n, m)),
-        false => Err(format!("the header has a total of {total} bytes, and here are {}", sheet.len())),
+        false => Err(format!(
+            "the header has a total of {total} bytes, and here are {}",
+            sheet.len()
+        )),
     }
 }
 
@@ -83,8 +89,14 @@ mod tests {
 
     #[test]
     fn says_what_is_wrong_with_a_header() {
-        assert_eq!(text(&pair()[..15]), Err("a sheet has a header of 16 bytes, and here are 15".to_string()));
-        assert_eq!(text(&pair()[..39]), Err("the header has a total of 40 bytes, and here are 39".to_string()));
+        assert_eq!(
+            text(&pair()[..15]),
+            Err("a sheet has a header of 16 bytes, and here are 15".to_string())
+        );
+        assert_eq!(
+            text(&pair()[..39]),
+            Err("the header has a total of 40 bytes, and here are 39".to_string())
+        );
         let mut sheet = pair();
         sheet[8] = 33;
         let message = "the header has 2 blocks and 1 wires, so its offsets and total should be 16, 32 and 40, not 16, 33 and 40";
