@@ -40,7 +40,7 @@ fn lag_lines(out: &mut [u8; 4096], used: &mut usize, lags: &[i16; 64], n: usize)
     }
 }
 
-// Both sheets are sound, so that neither wire is refused.
+// The sheet is sound by the answers before and the moved sheet by the move's promise, so that neither wire is refused.
 fn wire_line(out: &mut [u8; 4096], used: &mut usize, sheet: &[u8], moved: &[u8], n: usize, j: usize)
     requires { ⌜ (n ≤ 64) × (j ≤ 256) × (n ≡ blocksIn (now sheet)) × (n ≡ blocksIn (now moved)) × (24 + 8 * n + 8 * j ≤ length (now sheet)) × (24 + 8 * n + 8 * j ≤ length (now moved)) ⌝ }
 {

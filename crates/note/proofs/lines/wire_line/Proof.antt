@@ -1,6 +1,5 @@
 -- An end is below n, so that it fits.
 use native.Mathlib.Omega.{arith}
-use native.Mathlib.Omega.{arith}
 use Rattle.sheet.specs.Laws.Sheet.{wire-read}
 use borrow.Author.Needs.{needs}
 use Rattle.note.proofs.lines.wire_line.Statement.{statement}
