@@ -49,6 +49,14 @@ pub fn short_head(out: &mut [u8; 4096], used: &mut usize, code: u32, answer: Ans
     byte(out, used, b'\n');
 }
 
+// A program's line for a refusal: its value is not written.
+pub fn refused(out: &mut [u8; 4096], used: &mut usize, answer: Answer) {
+    text(out, used, b"refused");
+    next_number(out, used, answer.number);
+    next_number(out, used, answer.place);
+    byte(out, used, b'\n');
+}
+
 // A line with a name and the first `count` entries of a list.
 pub fn list(
     out: &mut [u8; 4096],
@@ -87,8 +95,8 @@ pub fn bytes(
     byte(out, used, b'\n');
 }
 
-// From the lag's excess number, which has no sign.
-fn next_lag(out: &mut [u8; 4096], used: &mut usize, lag: i16) {
+// A space and the lag, from its excess number, which has no sign.
+pub fn next_lag(out: &mut [u8; 4096], used: &mut usize, lag: i16) {
     let e = excess_of(lag);
     if e < 32768 {
         text(out, used, b" -");
