@@ -181,6 +181,32 @@ module _ {s : Shape} {w : ℕ → ℕ} {u : ℕ} (few-blocks : s .n ≤ 64) (u-l
         pub tried : Tried s w u j keys keys′ (ltb x old)
         tried = by (decLt x old)
 
+-- ---- the cleared keys: the start block alone
+module _ (n u start d : ℕ) (keys₀ keys : List ℕ) (few : n ≤ 64) (long : length keys₀ ≡ 64) (u-lt : u < n) (small : d ≤ 10000) (start-is : start + d ≡ 2147483648)
+    (keys-is : keys ≡ set (filled (λ _. 18446744071562067968) n keys₀) u start) where
+  blanked : Whole n (filled (λ _. 18446744071562067968) n keys₀)
+  blanked = record {
+    long = length-filled (λ _. 18446744071562067968) n keys₀ ∙ long;
+    half = λ v l. rw (filled-at (λ _. 18446744071562067968) n keys₀ v 0 l (omega arith)) (omega arith);
+  }
+
+  pub cleared-whole : Whole n keys
+  cleared-whole = rw keys-is (whole-set n (filled (λ _. 18446744071562067968) n keys₀) u start few u-lt (omega arith) blanked)
+
+  pub cleared-w : rowW n keys ≡ set (filled (λ _. 4294967295) n (rowW n keys₀)) u 0
+  cleared-w =
+      let e : keyW start ≡ 0 = omega arith in
+      ap (rowW n) keys-is
+      ∙ decoded-set keyW n (filled (λ _. 18446744071562067968) n keys₀) u start
+      ∙ rw (decoded-filled keyW 18446744071562067968 n n keys₀, e)
+
+  pub cleared-d : rowD n keys ≡ set (filled (λ _. 0) n (rowD n keys₀)) u d
+  cleared-d =
+      let e : keyD start ≡ d = omega arith in
+      ap (rowD n) keys-is
+      ∙ decoded-set keyD n (filled (λ _. 18446744071562067968) n keys₀) u start
+      ∙ rw (decoded-filled keyD 18446744071562067968 n n keys₀, e)
+
 -- ---- the finished keys, decoded
 pub right-decoded : (s : Shape) (w : ℕ → ℕ) (u : ℕ) (keys ws₀ ds₀ ws ds : List ℕ) → s .n ≤ 64 → length ws₀ ≡ s .n → length ds₀ ≡ s .n → KeysRight s w u keys
     → ws ≡ filled (λ v. keyW (getD keys v 0)) (s .n) ws₀ → ds ≡ filled (λ v. keyD (getD keys v 0)) (s .n) ds₀ → RowRight s w u ws ds
