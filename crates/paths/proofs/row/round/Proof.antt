@@ -41,9 +41,9 @@ loop-again c = let next = part-next _ _ _ _ _ _ (limits _ _ _ _ _ _ (c .before .
 
 returns : tie.Need-returns Inv-loop μ-loop
 returns c = record {
-    whole = c .before .loop .inv .3;
-    rounded = part-end _ _ _ _ _ _ (limits _ _ _ _ _ _ (c .before .before .pre .0 .0) (c .before .before .pre .0 .1)) (c .before .before .pre .0 .2) _ _ _ _ (omega arith) (omega arith) (omega (arith, c .before .before .pre)) (c .before .loop .inv .4);
-    }
+  whole = c .before .loop .inv .3;
+  rounded = part-end _ _ _ _ _ _ (limits _ _ _ _ _ _ (c .before .before .pre .0 .0) (c .before .before .pre .0 .1)) (c .before .before .pre .0 .2) _ _ _ _ (omega arith) (omega arith) (omega (arith, c .before .before .pre)) (c .before .loop .inv .4);
+}
 
 pub round-spec : {M : Type 1} → statement M
 round-spec =

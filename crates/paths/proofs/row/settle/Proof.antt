@@ -41,9 +41,9 @@ round-requires c κs = ((c .before .before .before .before .before .before .befo
 
 returns : tie.Need-returns Inv-loop μ-loop
 returns c = record {
-    whole = c .before .round .ensures .whole;
-    right = filling-stops _ _ _ (limits _ _ _ _ _ _ (c .before .before .before .before .before .before .before .before .before .before .pre .0 .0) (c .before .before .before .before .before .before .before .before .before .before .pre .0 .1)) (c .before .before .before .before .before .before .before .before .before .before .pre .0 .2) (c .before .before .before .before .before .before .before .before .before .before .pre .1) (c .before .before .before .before .before .before .before .before .before .before .pre .0 .0 .few-blocks) _ _ _ _ _ _ (c .before .before .before .loop-test .taken) (c .before .before .before .before .loop .inv .3) (c .before .round .ensures .rounded) (c .if1 .taken);
-    }
+  whole = c .before .round .ensures .whole;
+  right = filling-stops _ _ _ (limits _ _ _ _ _ _ (c .before .before .before .before .before .before .before .before .before .before .pre .0 .0) (c .before .before .before .before .before .before .before .before .before .before .pre .0 .1)) (c .before .before .before .before .before .before .before .before .before .before .pre .0 .2) (c .before .before .before .before .before .before .before .before .before .before .pre .1) (c .before .before .before .before .before .before .before .before .before .before .pre .0 .0 .few-blocks) _ _ _ _ _ _ (c .before .before .before .loop-test .taken) (c .before .before .before .before .loop .inv .3) (c .before .round .ensures .rounded) (c .if1 .taken);
+}
 
 add-done : tie.Need-add-done Inv-loop μ-loop
 add-done c = search needs
@@ -56,9 +56,9 @@ loop-again c = (search needs, c .before .round .ensures .whole .long, c .before 
 
 returns-2 : tie.Need-returns-2 Inv-loop μ-loop
 returns-2 c = record {
-    whole = c .before .loop .inv .2;
-    right = filling-ends _ _ _ (limits _ _ _ _ _ _ (c .before .before .before .before .before .before .before .pre .0 .0) (c .before .before .before .before .before .before .before .pre .0 .1)) (c .before .before .before .before .before .before .before .pre .0 .2) (c .before .before .before .before .before .before .before .pre .1) (c .before .before .before .before .before .before .before .pre .0 .0 .few-blocks) _ _ _ (omega arith) (omega arith) (c .before .loop .inv .3);
-    }
+  whole = c .before .loop .inv .2;
+  right = filling-ends _ _ _ (limits _ _ _ _ _ _ (c .before .before .before .before .before .before .before .pre .0 .0) (c .before .before .before .before .before .before .before .pre .0 .1)) (c .before .before .before .before .before .before .before .pre .0 .2) (c .before .before .before .before .before .before .before .pre .1) (c .before .before .before .before .before .before .before .pre .0 .0 .few-blocks) _ _ _ (omega arith) (omega arith) (c .before .loop .inv .3);
+}
 
 pub settle-spec : {M : Type 1} → statement M
 settle-spec =
