@@ -1,9 +1,7 @@
 // One row of the path table: rounds over the wires, each tried in place, left as soon as a round changes nothing.
 // While it is filled, a row holds one key for each block: its registers and its delay in one number, the lower the better.
 ghost use mathlib.Core.Path.{_≡_};
-ghost use mathlib.Core.Bool.{cond};
-ghost use Prim.Native.Nat.{ℕ, _+_, _*_, _%_, _<_, _≤_};
-ghost use lib.Dec.{ltb};
+ghost use Prim.Native.Nat.{ℕ, _+_, _*_, _%_, _<_, _≤_, min};
 ghost use lib.ListN.{length, getD, set};
 ghost use Rattle.paths.specs.Lists.{held, listShape, Wires, Delays};
 ghost use Rattle.sheet.specs.Filled.{filled};
@@ -71,7 +69,7 @@ fn offer(k: usize, r: u32, d: u32) -> usize
 }
 
 fn least(x: usize, y: usize) -> usize
-    ensures { λ r. ⌜ r ≡ cond (ltb x y) x y ⌝ }
+    ensures { λ r. ⌜ r ≡ min x y ⌝ }
 {
     if x < y {
         return x;

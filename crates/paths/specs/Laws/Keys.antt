@@ -1,10 +1,10 @@
 -- Keys: decoding goes through stores, the lower key is the pair ahead, and what trying a wire on keys comes to.
 -- Assumes nothing.
 use mathlib.Core.Path.{_≡_, refl, sym, ap, _∙_, subst}
-use mathlib.Core.Bool.{Bool, true, false, cond}
+use mathlib.Core.Bool.{Bool, true, false}
 use mathlib.Core.Logic.{_⊎_, inl, inr}
 use mathlib.Core.List.{List, [], _∷_}
-use Prim.Native.Nat.{ℕ, zero, suc, _+_, _*_, _-_, _/_, _%_, _≤_, _<_}
+use Prim.Native.Nat.{ℕ, zero, suc, _+_, _*_, _-_, _/_, _%_, _≤_, _<_, min}
 use native.Mathlib.Decide.{ℕ-discrete, decLt}
 use native.Mathlib.Omega.{arith}
 use borrow.Author.Tests.{lt-ltb, le-ltb}
@@ -152,10 +152,11 @@ module _ {s : Shape} {w : ℕ → ℕ} {u : ℕ} (few-blocks : s .n ≤ 64) (u-l
       old-d : keyD old ≡ getD (rowD (s .n) keys) (s .to j) 0
       old-d = ap keyD old-is ∙ sym (getD-decoded keyD (s .n) keys t t-lt room) ∙ ap (held (rowD (s .n) keys)) t-is
 
-      module _ (keys′ : List ℕ) (kept : keys′ ≡ set keys t (cond (ltb x old) x old)) where
+      module _ (keys′ : List ℕ) (kept : keys′ ≡ set keys t (min x old)) where
         lower : x < old → Tried s w u j keys keys′ true
         lower l =
-            let e : keys′ ≡ set keys t x = kept ∙ rw (lt-ltb x old l) in
+            let m : min x old ≡ x = omega arith in
+            let e : keys′ ≡ set keys t x = kept ∙ rw m in
             record {
               whole = rw e (whole-set (s .n) keys t x few-blocks t-lt x-half whole);
               relaxed = (
@@ -168,7 +169,8 @@ module _ {s : Shape} {w : ℕ → ℕ} {u : ℕ} (few-blocks : s .n ≤ 64) (u-l
 
         upper : old ≤ x → Tried s w u j keys keys′ false
         upper l =
-            let e : keys′ ≡ keys = kept ∙ rw (le-ltb x old l, old-is) (set-getD keys t 0) in
+            let m : min x old ≡ old = omega arith in
+            let e : keys′ ≡ keys = kept ∙ rw (m, old-is) (set-getD keys t 0) in
             record {
               whole = rw e whole;
               relaxed = (λ _. rw (x-w, x-d, old-w, old-d) at (upper-behind x old x-half old-half l), ap (rowW (s .n)) e, ap (rowD (s .n)) e);
