@@ -32,6 +32,14 @@ pub record Whole (n : ℕ) (keys : List ℕ) : Type 0 where
   pub long : length keys ≡ 64
   pub half : (v : ℕ) → v < n → getD keys v 0 % 4294967296 ≤ 2147483648
 
+-- what wire j costs: its registers on a key, and 10,000 less the delay of the block that it leads to
+abbrev pub costAt : List ℕ → List ℕ → List ℕ → ℕ → ℕ
+costAt delays to registers j = getD registers j 0 * 4294967296 + 10000 - getD delays (getD to j 0) 0
+
+pub record Costs (s : Shape) (w : ℕ → ℕ) (costs : List ℕ) : Type 0 where
+  pub long : length costs ≡ 256
+  pub cost : (j : ℕ) → j < s .m → getD costs j 0 + s .delay (s .to j) ≡ w j * 4294967296 + 10000
+
 module _ (s : Shape) (w : ℕ → ℕ) (u : ℕ) where
   -- wire j was tried
   pub record Tried (j : ℕ) (keys keys′ : List ℕ) (b : Bool) : Type 0 where

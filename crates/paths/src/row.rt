@@ -1,13 +1,13 @@
 // One row of the path table: rounds over the wires, each tried in place, left as soon as a round changes nothing.
 // While it is filled, a row holds one key for each block: its registers and its delay in one number, the lower the better.
 ghost use mathlib.Core.Path.{_≡_};
-ghost use Prim.Native.Nat.{ℕ, _+_, _*_, _%_, _<_, _≤_, min};
+ghost use Prim.Native.Nat.{ℕ, _+_, _*_, _-_, _%_, _<_, _≤_, min};
 ghost use lib.ListN.{length, getD, set};
 ghost use Rattle.paths.specs.Lists.{held, listShape, Wires, Delays};
 ghost use Rattle.sheet.specs.Filled.{filled};
 ghost use Rattle.paths.specs.Table.{LoopAt};
 ghost use Rattle.paths.specs.Row.{baseOf, Row, RowRight};
-ghost use Rattle.paths.specs.Keys.{keyW, keyD, rowW, rowD, Whole, Tried, TriedAll, KeysRight};
+ghost use Rattle.paths.specs.Keys.{keyW, keyD, rowW, rowD, Whole, costAt, Costs, Tried, TriedAll, KeysRight};
 
 // The key of a pair that no path joins: 4294967295 registers and no delay.
 const FAR: usize = 18446744071562067968;
@@ -60,12 +60,51 @@ fn base(start: usize, u: usize, f: usize, keys: &[usize; 64]) -> usize
     keys[f]
 }
 
-// A key after a wire of r registers into a block of delay d.
-fn offer(k: usize, r: u32, d: u32) -> usize
-    requires { ⌜ (k < 144115188075855872) × (10000 ≤ k) × (r ≤ 2000) × (d ≤ 10000) ⌝ }
-    ensures { λ x. ⌜ x + d ≡ k + r * 4294967296 ⌝ }
+// What a wire costs: its registers on a key, and 10000 less the delay of the block that it leads to.
+fn cost_of(r: u32, d: u32) -> usize
+    requires { ⌜ (r ≤ 2000) × (d ≤ 10000) ⌝ }
+    ensures { λ x. ⌜ x ≡ r * 4294967296 + 10000 - d ⌝ }
 {
-    k + r as usize * 4294967296 - d as usize
+    r as usize * 4294967296 + 10000 - d as usize
+}
+
+// What each wire costs, found once for all rows.
+pub fn weigh(
+    n: usize,
+    m: usize,
+    delays: &[u32; 64],
+    to: &[usize; 256],
+    registers: &[u32; 256],
+    costs: &mut [usize; 256],
+)
+    requires { ⌜ Delays n (now delays) × (n ≤ 64) × (m ≤ 256) × (length (now to) ≡ 256) × (length (now registers) ≡ 256) × (length (now costs) ≡ 256) ⌝ }
+    requires { ⌜ ((i : ℕ) → i < m → getD (now to) i 0 < n) ⌝ }
+    requires { ⌜ ((i : ℕ) → i < m → getD (now registers) i 0 ≤ 2000) ⌝ }
+    ensures { λ _. ⌜ now (costs .exit) ≡ filled (costAt (now (delays .entry)) (now (to .entry)) (now (registers .entry))) m (now (costs .entry)) ⌝ }
+{
+    let mut j: usize = 0;
+    while j < m {
+        costs[j] = cost_of(
+            registers_at(registers, m, j),
+            delay_at(delays, n, end_at(to, n, m, j)),
+        );
+        j += 1;
+    }
+}
+
+fn cost_at(costs: &[usize; 256], m: usize, j: usize) -> usize
+    requires { ⌜ (length (now costs) ≡ 256) × (m ≤ 256) × (j < m) ⌝ }
+    ensures { λ r. ⌜ r ≡ getD (now (costs .entry)) j 0 ⌝ }
+{
+    costs[j]
+}
+
+// A key after a wire of that cost.
+fn offer(k: usize, cost: usize) -> usize
+    requires { ⌜ (k < 144115188075855872) × (10000 ≤ k) × (cost ≤ 8589934602000) ⌝ }
+    ensures { λ x. ⌜ x + 10000 ≡ k + cost ⌝ }
+{
+    k + cost - 10000
 }
 
 fn least(x: usize, y: usize) -> usize
@@ -78,7 +117,8 @@ fn least(x: usize, y: usize) -> usize
 }
 
 // Tries wire j on the row of block u: true where it improved the block that it leads to.
-// The block's key is stored in either case: a test around the store costs more than the store.
+// The block's key is stored in either case: a test around the store takes longer than the store.
+// `delays` and `registers` are what the costs stand for.
 fn relax(
     n: usize,
     m: usize,
@@ -86,12 +126,13 @@ fn relax(
     from: &[usize; 256],
     to: &[usize; 256],
     registers: &[u32; 256],
+    costs: &[usize; 256],
     u: usize,
     start: usize,
     j: usize,
     keys: &mut [usize; 64],
 ) -> bool
-    requires { ⌜ Wires n m (now from) (now to) (now registers) × Delays n (now delays) × (u < n) × (j < m) × (start + getD (now delays) u 0 ≡ 2147483648) ⌝ }
+    requires { ⌜ Wires n m (now from) (now to) (now registers) × Delays n (now delays) × (u < n) × (j < m) × (start + getD (now delays) u 0 ≡ 2147483648) × Costs (listShape n m (now delays) (now from) (now to)) (held (now registers)) (now costs) ⌝ }
     requires { ⌜ Whole n (now keys) × Row (listShape n m (now delays) (now from) (now to)) (held (now registers)) u 16384 (rowW n (now keys)) (rowD n (now keys)) ⌝ }
     ensures { λ r. ⌜ Tried (listShape n m (now (delays .entry)) (now (from .entry)) (now (to .entry))) (held (now (registers .entry))) u j (now (keys .entry)) (now (keys .exit)) r ⌝ }
 {
@@ -101,7 +142,7 @@ fn relax(
     if k == FAR {
         return false;
     }
-    let x = offer(k, registers_at(registers, m, j), delay_at(delays, n, t));
+    let x = offer(k, cost_at(costs, m, j));
     let old = key_at(keys, t);
     put_key(keys, t, least(x, old));
     x < old
@@ -115,19 +156,20 @@ fn round(
     from: &[usize; 256],
     to: &[usize; 256],
     registers: &[u32; 256],
+    costs: &[usize; 256],
     u: usize,
     start: usize,
     done: usize,
     keys: &mut [usize; 64],
 ) -> usize
-    requires { ⌜ Wires n m (now from) (now to) (now registers) × Delays n (now delays) × (u < n) × (done < 64) × (start + getD (now delays) u 0 ≡ 2147483648) ⌝ }
+    requires { ⌜ Wires n m (now from) (now to) (now registers) × Delays n (now delays) × (u < n) × (done < 64) × (start + getD (now delays) u 0 ≡ 2147483648) × Costs (listShape n m (now delays) (now from) (now to)) (held (now registers)) (now costs) ⌝ }
     requires { ⌜ Whole n (now keys) × Row (listShape n m (now delays) (now from) (now to)) (held (now registers)) u (256 * done) (rowW n (now keys)) (rowD n (now keys)) ⌝ }
     ensures { λ r. ⌜ TriedAll (listShape n m (now (delays .entry)) (now (from .entry)) (now (to .entry))) (held (now (registers .entry))) u (256 * done + 256) (now (keys .entry)) (now (keys .exit)) r ⌝ }
 {
     let mut changed: usize = 0;
     let mut j: usize = 0;
     while j < m {
-        if relax(n, m, delays, from, to, registers, u, start, j, keys) {
+        if relax(n, m, delays, from, to, registers, costs, u, start, j, keys) {
             changed += 1;
         }
         j += 1;
@@ -163,10 +205,11 @@ fn settle(
     from: &[usize; 256],
     to: &[usize; 256],
     registers: &[u32; 256],
+    costs: &[usize; 256],
     u: usize,
     keys: &mut [usize; 64],
 )
-    requires { ⌜ Wires n m (now from) (now to) (now registers) × Delays n (now delays) × (u < n) × (length (now keys) ≡ 64) ⌝ }
+    requires { ⌜ Wires n m (now from) (now to) (now registers) × Delays n (now delays) × (u < n) × (length (now keys) ≡ 64) × Costs (listShape n m (now delays) (now from) (now to)) (held (now registers)) (now costs) ⌝ }
     requires { ⌜ ((b : ℕ) → LoopAt (listShape n m (now delays) (now from) (now to)) (held (now registers)) b → ⊥) ⌝ }
     ensures { λ _. ⌜ KeysRight (listShape n m (now (delays .entry)) (now (from .entry)) (now (to .entry))) (held (now (registers .entry))) u (now (keys .exit)) ⌝ }
 {
@@ -175,7 +218,21 @@ fn settle(
     put_key(keys, u, start);
     let mut done: usize = 0;
     while done < n {
-        if round(n, m, delays, from, to, registers, u, start, done, keys) == 0 {
+        if round(
+            n,
+            m,
+            delays,
+            from,
+            to,
+            registers,
+            costs,
+            u,
+            start,
+            done,
+            keys,
+        )
+            == 0
+        {
             return;
         }
         done += 1;
@@ -219,15 +276,16 @@ pub fn fill_row(
     from: &[usize; 256],
     to: &[usize; 256],
     registers: &[u32; 256],
+    costs: &[usize; 256],
     u: usize,
     ws: &mut [u32],
     ds: &mut [u32],
 )
-    requires { ⌜ Wires n m (now from) (now to) (now registers) × Delays n (now delays) × (u < n) × (length (now ws) ≡ n) × (length (now ds) ≡ n) ⌝ }
+    requires { ⌜ Wires n m (now from) (now to) (now registers) × Delays n (now delays) × (u < n) × (length (now ws) ≡ n) × (length (now ds) ≡ n) × Costs (listShape n m (now delays) (now from) (now to)) (held (now registers)) (now costs) ⌝ }
     requires { ⌜ ((b : ℕ) → LoopAt (listShape n m (now delays) (now from) (now to)) (held (now registers)) b → ⊥) ⌝ }
     ensures { λ _. ⌜ RowRight (listShape n m (now (delays .entry)) (now (from .entry)) (now (to .entry))) (held (now (registers .entry))) u (now (ws .exit)) (now (ds .exit)) ⌝ }
 {
     let mut keys = [0usize; 64];
-    settle(n, m, delays, from, to, registers, u, &mut keys);
+    settle(n, m, delays, from, to, registers, costs, u, &mut keys);
     unpack(n, &keys, ws, ds);
 }

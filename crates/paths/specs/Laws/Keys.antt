@@ -14,10 +14,10 @@ use lib.Seq.{getD-set-same, getD-set-other, set-getD}
 use Rattle.sheet.specs.Core.{Shape}
 use Rattle.sheet.specs.Filled.{filled}
 use Rattle.sheet.specs.Laws.Filled.{length-filled, filled-at}
-use Rattle.paths.specs.Lists.{held}
+use Rattle.paths.specs.Lists.{held, listShape, Wires, Delays}
 use Rattle.paths.specs.Table.{Entry}
 use Rattle.paths.specs.Row.{baseOf, baseW, baseD, offerW, offerD, Row, Relaxed, RowRight}
-use Rattle.paths.specs.Keys.{keyW, keyD, decoded, rowW, rowD, Whole, Tried, KeysRight}
+use Rattle.paths.specs.Keys.{keyW, keyD, decoded, rowW, rowD, Whole, costAt, Costs, Tried, KeysRight}
 use Rattle.paths.specs.Laws.Ahead.{Ahead, fewer, level}
 use Rattle.paths.specs.Laws.Rows.{base-start, base-other, base-few, base-small}
 
@@ -74,6 +74,26 @@ upper-behind x y h k l = go (decLt (keyW y) (keyW x))
     go : Dec (keyW y < keyW x) → Ahead (keyW y) (keyD y) (keyW x) (keyD x)
     go (yes e) = fewer e
     go (no e) = level (omega arith) (omega arith)
+
+-- ---- what each wire costs
+pub costs-of : (n m : ℕ) (delays from to registers costs₀ costs : List ℕ) → Wires n m from to registers → Delays n delays → length costs₀ ≡ 256
+    → costs ≡ filled (costAt delays to registers) m costs₀ → Costs (listShape n m delays from to) (held registers) costs
+costs-of n m delays from to registers costs₀ costs a b l e = record {
+  long = ap length e ∙ length-filled (costAt delays to registers) m costs₀ ∙ l;
+  cost = λ j h.
+      omega (
+        arith,
+        ap (λ (r : List ℕ). getD r j 0) e ∙ filled-at (costAt delays to registers) m costs₀ j 0 h (omega (arith, a .few-wires)),
+        b .small (getD to j 0) (a .to-block j h),
+      );
+}
+
+pub cost-few : (s : Shape) (w : ℕ → ℕ) (costs : List ℕ) (j c : ℕ) → Costs s w costs → j < s .m → w j ≤ 2000 → c ≡ getD costs j 0 → c ≤ 8589934602000
+cost-few s w costs j c k l h e = omega (arith, k .cost j l)
+
+pub offer-is : (s : Shape) (w : ℕ → ℕ) (costs : List ℕ) (j t c x b : ℕ) → Costs s w costs → j < s .m → t ≡ s .to j → c ≡ getD costs j 0 → x + 10000 ≡ b + c
+    → x + s .delay t ≡ b + w j * 4294967296
+offer-is s w costs j t c x b k l t-is e h = omega (arith, k .cost j l, ap (s .delay) t-is)
 
 -- ---- where a wire starts
 module _ {s : Shape} {w : ℕ → ℕ} {u : ℕ} (few-blocks : s .n ≤ 64) (u-lt : u < s .n) (small : s .delay u ≤ 10000) (keys : List ℕ) (whole : Whole (s .n) keys)

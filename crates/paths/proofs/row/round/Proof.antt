@@ -14,16 +14,16 @@ use Rattle.paths.proofs.row.round.Statement.{statement}
 use Rattle.paths.proofs.row.round.Tie as tie
 
 abbrev Inv-loop : tie.InvT-loop
-Inv-loop n m delays from to registers u start done keys₀ changed₀ j₀ keys changed j = (j ≤ m) × (changed ≤ j) × (length keys ≡ length keys₀) × Whole n keys × Part (listShape n m delays from to) (held registers) u (256 * done) j (rowW n keys₀) (rowD n keys₀) (rowW n keys) (rowD n keys) changed
+Inv-loop n m delays from to registers costs u start done keys₀ changed₀ j₀ keys changed j = (j ≤ m) × (changed ≤ j) × (length keys ≡ length keys₀) × Whole n keys × Part (listShape n m delays from to) (held registers) u (256 * done) j (rowW n keys₀) (rowD n keys₀) (rowW n keys) (rowD n keys) changed
 
 abbrev μ-loop : tie.MeasureT-loop
-μ-loop n m delays from to registers u start done keys₀ changed₀ j₀ keys changed j = m - j
+μ-loop n m delays from to registers costs u start done keys₀ changed₀ j₀ keys changed j = m - j
 
 loop-holds : tie.Need-loop-holds Inv-loop μ-loop
 loop-holds c = (search needs, search needs, search needs, c .pre .1 .0, part-start _ _ _ _ _ _ (limits _ _ _ _ _ _ (c .pre .0 .0) (c .pre .0 .1)) (c .pre .0 .2) (c .pre .1 .1))
 
 relax-requires : tie.Need-relax-requires Inv-loop μ-loop
-relax-requires c κs = ((c .before .before .before .pre .0 .0, c .before .before .before .pre .0 .1, c .before .before .before .pre .0 .2, c .before .loop-test .taken, c .before .before .before .pre .0 .4), (c .before .before .loop .inv .3, row-more _ _ _ (limits _ _ _ _ _ _ (c .before .before .before .pre .0 .0) (c .before .before .before .pre .0 .1)) (c .before .before .before .pre .0 .2) _ 16384 _ _ (omega (arith, c .before .before .before .pre)) (c .before .before .loop .inv .4 .row)))
+relax-requires c κs = ((c .before .before .before .pre .0 .0, c .before .before .before .pre .0 .1, c .before .before .before .pre .0 .2, c .before .loop-test .taken, c .before .before .before .pre .0 .4, c .before .before .before .pre .0 .5), (c .before .before .loop .inv .3, row-more _ _ _ (limits _ _ _ _ _ _ (c .before .before .before .pre .0 .0) (c .before .before .before .pre .0 .1)) (c .before .before .before .pre .0 .2) _ 16384 _ _ (omega (arith, c .before .before .before .pre)) (c .before .before .loop .inv .4 .row)))
 
 add-changed : tie.Need-add-changed Inv-loop μ-loop
 add-changed c = search needs

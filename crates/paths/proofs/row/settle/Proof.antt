@@ -14,10 +14,10 @@ use Rattle.paths.proofs.row.settle.Statement.{statement}
 use Rattle.paths.proofs.row.settle.Tie as tie
 
 abbrev Inv-loop : tie.InvT-loop
-Inv-loop n m delays from to registers u keys₀ start done₀ keys done = (done ≤ n) × (length keys ≡ 64) × Whole n keys × Filling (listShape n m delays from to) (held registers) u done (rowW n keys) (rowD n keys)
+Inv-loop n m delays from to registers costs u keys₀ start done₀ keys done = (done ≤ n) × (length keys ≡ 64) × Whole n keys × Filling (listShape n m delays from to) (held registers) u done (rowW n keys) (rowD n keys)
 
 abbrev μ-loop : tie.MeasureT-loop
-μ-loop n m delays from to registers u keys₀ start done₀ keys done = n - done
+μ-loop n m delays from to registers costs u keys₀ start done₀ keys done = n - done
 
 start-of-requires : tie.Need-start-of-requires Inv-loop μ-loop
 start-of-requires c κs = search needs
@@ -37,7 +37,7 @@ loop-holds c = let w = c .before .before .before .before .before .pre .0 .0 in
     (search needs, whole .long, whole, filling-start _ _ _ (limits _ _ _ _ _ _ w (c .before .before .before .before .before .pre .0 .1)) (c .before .before .before .before .before .pre .0 .2) (c .before .before .before .before .before .pre .1) (w .few-blocks) _ _ _ _ _ (length-decoded keyW _ _ (omega (arith, w .few-blocks, l))) (length-decoded keyD _ _ (omega (arith, w .few-blocks, l))) refl (cleared-w _ _ _ _ _ _ (w .few-blocks) l (c .before .before .before .before .before .pre .0 .2) small (c .before .before .before .before .start-of .ensures) k) (cleared-d _ _ _ _ _ _ (w .few-blocks) l (c .before .before .before .before .before .pre .0 .2) small (c .before .before .before .before .start-of .ensures) k))
 
 round-requires : tie.Need-round-requires Inv-loop μ-loop
-round-requires c κs = ((c .before .before .before .before .before .before .before .before .pre .0 .0, c .before .before .before .before .before .before .before .before .pre .0 .1, c .before .before .before .before .before .before .before .before .pre .0 .2, omega (arith, c .before .before .before .before .before .before .before .before .pre .0 .0 .few-blocks), c .before .before .before .before .before .before .before .start-of .ensures), (c .before .before .loop .inv .2, c .before .before .loop .inv .3 .row))
+round-requires c κs = ((c .before .before .before .before .before .before .before .before .pre .0 .0, c .before .before .before .before .before .before .before .before .pre .0 .1, c .before .before .before .before .before .before .before .before .pre .0 .2, omega (arith, c .before .before .before .before .before .before .before .before .pre .0 .0 .few-blocks), c .before .before .before .before .before .before .before .start-of .ensures, c .before .before .before .before .before .before .before .before .pre .0 .4), (c .before .before .loop .inv .2, c .before .before .loop .inv .3 .row))
 
 returns : tie.Need-returns Inv-loop μ-loop
 returns c = record {
