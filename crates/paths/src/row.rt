@@ -49,16 +49,15 @@ fn put_key(keys: &mut [usize; 64], v: usize, k: usize)
     keys[v] = k;
 }
 
-// Where a wire out of block f starts: at the bare start block u, or at what the row holds for f, which is read in either case.
+// Where a wire out of block f starts: at the bare start block u, or at what the row holds for f.
 fn base(start: usize, u: usize, f: usize, keys: &[usize; 64]) -> usize
     requires { ⌜ (length (now keys) ≡ 64) × (f < 64) ⌝ }
     ensures { λ r. ⌜ r ≡ baseOf start u (held (now (keys .entry))) f ⌝ }
 {
-    let k = keys[f];
     if f == u {
         return start;
     }
-    k
+    keys[f]
 }
 
 // What a wire costs: its registers on a key, and 10000 less the delay of the block that it leads to.
