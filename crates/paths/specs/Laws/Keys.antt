@@ -1,6 +1,6 @@
 -- Keys: decoding goes through stores, the lower key is the pair ahead, and what trying a wire on keys comes to.
 -- Assumes nothing.
-use mathlib.Core.Path.{_≡_, refl, sym, ap, _∙_, subst}
+use mathlib.Core.Path.{_≡_, refl, sym, ap, _∙_}
 use mathlib.Core.Bool.{Bool, true, false}
 use mathlib.Core.Logic.{_⊎_, inl, inr}
 use mathlib.Core.List.{List, [], _∷_}
@@ -15,7 +15,6 @@ use Rattle.sheet.specs.Core.{Shape}
 use Rattle.sheet.specs.Filled.{filled}
 use Rattle.sheet.specs.Laws.Filled.{length-filled, filled-at}
 use Rattle.paths.specs.Lists.{held, listShape, Wires, Delays}
-use Rattle.paths.specs.Table.{Entry}
 use Rattle.paths.specs.Row.{baseOf, baseW, baseD, offerW, offerD, Row, Relaxed, RowRight}
 use Rattle.paths.specs.Keys.{keyW, keyD, decoded, rowW, rowD, Whole, costAt, Costs, Tried, KeysRight}
 use Rattle.paths.specs.Laws.Ahead.{Ahead, fewer, level}
