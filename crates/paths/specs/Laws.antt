@@ -9,6 +9,7 @@ pub mod Loaded
 pub mod Rows
 pub mod Relax
 pub mod Filling
+pub mod Keys
 pub mod Parts
 pub mod Tables
 pub mod Entry

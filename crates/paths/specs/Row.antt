@@ -69,11 +69,6 @@ module _ (s : Shape) (w : ℕ → ℕ) (u : ℕ) where
     pub ds-long : length ds ≡ s .n
     pub entry : (v : ℕ) → v < s .n → Entry s w u v (getD ws v 0) (getD ds v 0)
 
--- which of two pairs a test prefers: where it says true the first is ahead, else the second
-abbrev pub Preferred : ℕ → ℕ → ℕ → ℕ → Bool → Type 0
-Preferred x y W D true = Ahead x y W D
-Preferred x y W D false = Ahead W D x y
-
 -- tables whose rows below u are right; from entry n² on both lists are as they were
 pub record Rows (s : Shape) (w : ℕ → ℕ) (u : ℕ) (ws₀ ds₀ ws ds : List ℕ) : Type 0 where
   pub entry : (x v : ℕ) → x < u → v < s .n → Entry s w x v (getD ws (x * s .n + v) 0) (getD ds (x * s .n + v) 0)

@@ -1,28 +1,16 @@
 // One row of the path table: rounds over the wires, each tried in place, left as soon as a round changes nothing.
+// While it is filled, a row holds one key for each block: its registers and its delay in one number, the lower the better.
 ghost use mathlib.Core.Path.{_≡_};
-ghost use Prim.Native.Nat.{ℕ, _+_, _*_, _<_, _≤_};
+ghost use Prim.Native.Nat.{ℕ, _+_, _*_, _-_, _%_, _<_, _≤_, min};
 ghost use lib.ListN.{length, getD, set};
 ghost use Rattle.paths.specs.Lists.{held, listShape, Wires, Delays};
 ghost use Rattle.sheet.specs.Filled.{filled};
 ghost use Rattle.paths.specs.Table.{LoopAt};
-ghost use Rattle.paths.specs.Row.{baseOf, Row, Relaxed, Rounded, RowRight, Preferred};
+ghost use Rattle.paths.specs.Row.{baseOf, Row, RowRight};
+ghost use Rattle.paths.specs.Keys.{keyW, keyD, rowW, rowD, Whole, costAt, Costs, Tried, TriedAll, KeysRight};
 
-// The registers of a pair that no path joins.
-const FAR: u32 = 4294967295;
-
-fn at(list: &[u32], i: usize) -> u32
-    requires { ⌜ i < length (now list) ⌝ }
-    ensures { λ r. ⌜ r ≡ getD (now (list .entry)) i 0 ⌝ }
-{
-    list[i]
-}
-
-fn put(list: &mut [u32], i: usize, x: u32)
-    requires { ⌜ i < length (now list) ⌝ }
-    ensures { λ _. ⌜ now (list .exit) ≡ set (now (list .entry)) i x ⌝ }
-{
-    list[i] = x;
-}
+// The key of a pair that no path joins: 4294967295 registers and no delay.
+const FAR: usize = 18446744071562067968;
 
 fn end_at(ends: &[usize; 256], n: usize, m: usize, j: usize) -> usize
     requires { ⌜ (length (now ends) ≡ 256) × (m ≤ 256) × (j < m) ⌝ }
@@ -47,34 +35,90 @@ fn delay_at(delays: &[u32; 64], n: usize, b: usize) -> u32
     delays[b]
 }
 
+fn key_at(keys: &[usize; 64], v: usize) -> usize
+    requires { ⌜ (length (now keys) ≡ 64) × (v < 64) ⌝ }
+    ensures { λ r. ⌜ r ≡ getD (now (keys .entry)) v 0 ⌝ }
+{
+    keys[v]
+}
+
+fn put_key(keys: &mut [usize; 64], v: usize, k: usize)
+    requires { ⌜ (length (now keys) ≡ 64) × (v < 64) ⌝ }
+    ensures { λ _. ⌜ now (keys .exit) ≡ set (now (keys .entry)) v k ⌝ }
+{
+    keys[v] = k;
+}
+
 // Where a wire out of block f starts: at the bare start block u, or at what the row holds for f.
-fn base(start: u32, u: usize, f: usize, row: &[u32]) -> u32
-    requires { ⌜ f < length (now row) ⌝ }
-    ensures { λ r. ⌜ r ≡ baseOf start u (held (now (row .entry))) f ⌝ }
+fn base(start: usize, u: usize, f: usize, keys: &[usize; 64]) -> usize
+    requires { ⌜ (length (now keys) ≡ 64) × (f < 64) ⌝ }
+    ensures { λ r. ⌜ r ≡ baseOf start u (held (now (keys .entry))) f ⌝ }
 {
     if f == u {
         return start;
     }
-    row[f]
+    keys[f]
 }
 
-// Fewer registers, or as many and more delay.
-fn better(x: u32, y: u32, w: u32, d: u32) -> bool
-    ensures { λ r. ⌜ Preferred x y w d r ⌝ }
+// What a wire costs: its registers on a key, and 10000 less the delay of the block that it leads to.
+fn cost_of(r: u32, d: u32) -> usize
+    requires { ⌜ (r ≤ 2000) × (d ≤ 10000) ⌝ }
+    ensures { λ x. ⌜ x ≡ r * 4294967296 + 10000 - d ⌝ }
 {
-    if x < w {
-        return true;
+    r as usize * 4294967296 + 10000 - d as usize
+}
+
+// What each wire costs, found once for all rows.
+pub fn weigh(
+    n: usize,
+    m: usize,
+    delays: &[u32; 64],
+    to: &[usize; 256],
+    registers: &[u32; 256],
+    costs: &mut [usize; 256],
+)
+    requires { ⌜ Delays n (now delays) × (n ≤ 64) × (m ≤ 256) × (length (now to) ≡ 256) × (length (now registers) ≡ 256) × (length (now costs) ≡ 256) ⌝ }
+    requires { ⌜ ((i : ℕ) → i < m → getD (now to) i 0 < n) ⌝ }
+    requires { ⌜ ((i : ℕ) → i < m → getD (now registers) i 0 ≤ 2000) ⌝ }
+    ensures { λ _. ⌜ now (costs .exit) ≡ filled (costAt (now (delays .entry)) (now (to .entry)) (now (registers .entry))) m (now (costs .entry)) ⌝ }
+{
+    let mut j: usize = 0;
+    while j < m {
+        costs[j] = cost_of(
+            registers_at(registers, m, j),
+            delay_at(delays, n, end_at(to, n, m, j)),
+        );
+        j += 1;
     }
-    if w < x {
-        return false;
+}
+
+fn cost_at(costs: &[usize; 256], m: usize, j: usize) -> usize
+    requires { ⌜ (length (now costs) ≡ 256) × (m ≤ 256) × (j < m) ⌝ }
+    ensures { λ r. ⌜ r ≡ getD (now (costs .entry)) j 0 ⌝ }
+{
+    costs[j]
+}
+
+// A key after a wire of that cost.
+fn offer(k: usize, cost: usize) -> usize
+    requires { ⌜ (k < 144115188075855872) × (10000 ≤ k) × (cost ≤ 8589934602000) ⌝ }
+    ensures { λ x. ⌜ x + 10000 ≡ k + cost ⌝ }
+{
+    k + cost - 10000
+}
+
+fn least(x: usize, y: usize) -> usize
+    ensures { λ r. ⌜ r ≡ min x y ⌝ }
+{
+    if x < y {
+        return x;
     }
-    if d < y {
-        return true;
-    }
-    false
+    y
 }
 
 // Tries wire j on the row of block u: true where it improved the block that it leads to.
+// The block's key is stored in either case: a test around the store takes longer than the store.
+// `delays` and `registers` are what the costs stand for.
 fn relax(
     n: usize,
     m: usize,
@@ -82,29 +126,26 @@ fn relax(
     from: &[usize; 256],
     to: &[usize; 256],
     registers: &[u32; 256],
+    costs: &[usize; 256],
     u: usize,
+    start: usize,
     j: usize,
-    ws: &mut [u32],
-    ds: &mut [u32],
+    keys: &mut [usize; 64],
 ) -> bool
-    requires { ⌜ Wires n m (now from) (now to) (now registers) × Delays n (now delays) × (u < n) × (j < m) ⌝ }
-    requires { ⌜ Row (listShape n m (now delays) (now from) (now to)) (held (now registers)) u 16384 (now ws) (now ds) ⌝ }
-    ensures { λ r. ⌜ Relaxed (listShape n m (now (delays .entry)) (now (from .entry)) (now (to .entry))) (held (now (registers .entry))) u j (now (ws .entry)) (now (ds .entry)) (now (ws .exit)) (now (ds .exit)) r ⌝ }
+    requires { ⌜ Wires n m (now from) (now to) (now registers) × Delays n (now delays) × (u < n) × (j < m) × (start + getD (now delays) u 0 ≡ 2147483648) × Costs (listShape n m (now delays) (now from) (now to)) (held (now registers)) (now costs) ⌝ }
+    requires { ⌜ Whole n (now keys) × Row (listShape n m (now delays) (now from) (now to)) (held (now registers)) u 16384 (rowW n (now keys)) (rowD n (now keys)) ⌝ }
+    ensures { λ r. ⌜ Tried (listShape n m (now (delays .entry)) (now (from .entry)) (now (to .entry))) (held (now (registers .entry))) u j (now (keys .entry)) (now (keys .exit)) r ⌝ }
 {
     let f = end_at(from, n, m, j);
     let t = end_at(to, n, m, j);
-    let w = base(0, u, f, ws);
-    if w == FAR {
+    let k = base(start, u, f, keys);
+    if k == FAR {
         return false;
     }
-    let x = w + registers_at(registers, m, j);
-    let y = base(delay_at(delays, n, u), u, f, ds) + delay_at(delays, n, t);
-    if better(x, y, at(ws, t), at(ds, t)) {
-        put(ws, t, x);
-        put(ds, t, y);
-        return true;
-    }
-    false
+    let x = offer(k, cost_at(costs, m, j));
+    let old = key_at(keys, t);
+    put_key(keys, t, least(x, old));
+    x < old
 }
 
 // One round over all wires: the number of improvements. `done` counts the rounds before it and bounds the row's numbers.
@@ -115,19 +156,20 @@ fn round(
     from: &[usize; 256],
     to: &[usize; 256],
     registers: &[u32; 256],
+    costs: &[usize; 256],
     u: usize,
+    start: usize,
     done: usize,
-    ws: &mut [u32],
-    ds: &mut [u32],
+    keys: &mut [usize; 64],
 ) -> usize
-    requires { ⌜ Wires n m (now from) (now to) (now registers) × Delays n (now delays) × (u < n) × (done < 64) ⌝ }
-    requires { ⌜ Row (listShape n m (now delays) (now from) (now to)) (held (now registers)) u (256 * done) (now ws) (now ds) ⌝ }
-    ensures { λ r. ⌜ Rounded (listShape n m (now (delays .entry)) (now (from .entry)) (now (to .entry))) (held (now (registers .entry))) u (256 * done + 256) (now (ws .entry)) (now (ds .entry)) (now (ws .exit)) (now (ds .exit)) r ⌝ }
+    requires { ⌜ Wires n m (now from) (now to) (now registers) × Delays n (now delays) × (u < n) × (done < 64) × (start + getD (now delays) u 0 ≡ 2147483648) × Costs (listShape n m (now delays) (now from) (now to)) (held (now registers)) (now costs) ⌝ }
+    requires { ⌜ Whole n (now keys) × Row (listShape n m (now delays) (now from) (now to)) (held (now registers)) u (256 * done) (rowW n (now keys)) (rowD n (now keys)) ⌝ }
+    ensures { λ r. ⌜ TriedAll (listShape n m (now (delays .entry)) (now (from .entry)) (now (to .entry))) (held (now (registers .entry))) u (256 * done + 256) (now (keys .entry)) (now (keys .exit)) r ⌝ }
 {
     let mut changed: usize = 0;
     let mut j: usize = 0;
     while j < m {
-        if relax(n, m, delays, from, to, registers, u, j, ws, ds) {
+        if relax(n, m, delays, from, to, registers, costs, u, start, j, keys) {
             changed += 1;
         }
         j += 1;
@@ -136,29 +178,97 @@ fn round(
 }
 
 // Every pair without a path.
-fn blank(n: usize, ws: &mut [u32], ds: &mut [u32])
-    requires { ⌜ (n ≤ length (now ws)) × (n ≤ length (now ds)) ⌝ }
-    ensures { λ _. ⌜ (now (ws .exit) ≡ filled (λ _. 4294967295) n (now (ws .entry))) × (now (ds .exit) ≡ filled (λ _. 0) n (now (ds .entry))) ⌝ }
+fn blank(n: usize, keys: &mut [usize; 64])
+    requires { ⌜ (n ≤ 64) × (length (now keys) ≡ 64) ⌝ }
+    ensures { λ _. ⌜ now (keys .exit) ≡ filled (λ _. 18446744071562067968) n (now (keys .entry)) ⌝ }
 {
     let mut v: usize = 0;
     while v < n {
-        ws[v] = FAR;
-        ds[v] = 0;
+        keys[v] = FAR;
         v += 1;
     }
 }
 
-// The row of block u before any wire: the start block alone.
-fn clear(n: usize, delays: &[u32; 64], u: usize, ws: &mut [u32], ds: &mut [u32])
-    requires { ⌜ Delays n (now delays) × (n ≤ 64) × (u < n) × (length (now ws) ≡ n) × (length (now ds) ≡ n) ⌝ }
-    ensures { λ _. ⌜ (now (ws .exit) ≡ set (filled (λ _. 4294967295) n (now (ws .entry))) u 0) × (now (ds .exit) ≡ set (filled (λ _. 0) n (now (ds .entry))) u (getD (now (delays .entry)) u 0)) ⌝ }
+// The key of the bare start block u.
+fn start_of(n: usize, delays: &[u32; 64], u: usize) -> usize
+    requires { ⌜ Delays n (now delays) × (n ≤ 64) × (u < n) ⌝ }
+    ensures { λ r. ⌜ r + getD (now (delays .entry)) u 0 ≡ 2147483648 ⌝ }
 {
-    blank(n, ws, ds);
-    put(ws, u, 0);
-    put(ds, u, delay_at(delays, n, u));
+    2147483648 - delay_at(delays, n, u) as usize
 }
 
-// The row of block u: at most n rounds from the bare start block.
+// The keys of block u's row: at most n rounds from the bare start block.
+fn settle(
+    n: usize,
+    m: usize,
+    delays: &[u32; 64],
+    from: &[usize; 256],
+    to: &[usize; 256],
+    registers: &[u32; 256],
+    costs: &[usize; 256],
+    u: usize,
+    keys: &mut [usize; 64],
+)
+    requires { ⌜ Wires n m (now from) (now to) (now registers) × Delays n (now delays) × (u < n) × (length (now keys) ≡ 64) × Costs (listShape n m (now delays) (now from) (now to)) (held (now registers)) (now costs) ⌝ }
+    requires { ⌜ ((b : ℕ) → LoopAt (listShape n m (now delays) (now from) (now to)) (held (now registers)) b → ⊥) ⌝ }
+    ensures { λ _. ⌜ KeysRight (listShape n m (now (delays .entry)) (now (from .entry)) (now (to .entry))) (held (now (registers .entry))) u (now (keys .exit)) ⌝ }
+{
+    let start = start_of(n, delays, u);
+    blank(n, keys);
+    put_key(keys, u, start);
+    let mut done: usize = 0;
+    while done < n {
+        if round(
+            n,
+            m,
+            delays,
+            from,
+            to,
+            registers,
+            costs,
+            u,
+            start,
+            done,
+            keys,
+        )
+            == 0
+        {
+            return;
+        }
+        done += 1;
+    }
+}
+
+// The registers and the delay that a key holds.
+fn registers_of(k: usize) -> u32
+    requires { ⌜ k < 18446744073709551616 ⌝ }
+    ensures { λ r. ⌜ r ≡ keyW k ⌝ }
+{
+    (k / 4294967296) as u32
+}
+
+fn delay_of(k: usize) -> u32
+    requires { ⌜ k % 4294967296 ≤ 2147483648 ⌝ }
+    ensures { λ r. ⌜ r ≡ keyD k ⌝ }
+{
+    (2147483648 - k % 4294967296) as u32
+}
+
+// The registers and the delay of each key, into the row.
+fn unpack(n: usize, keys: &[usize; 64], ws: &mut [u32], ds: &mut [u32])
+    requires { ⌜ (n ≤ 64) × (length (now keys) ≡ 64) × (length (now ws) ≡ n) × (length (now ds) ≡ n) × Whole n (now keys) ⌝ }
+    ensures { λ _. ⌜ (now (ws .exit) ≡ filled (λ v. keyW (getD (now (keys .entry)) v 0)) n (now (ws .entry))) × (now (ds .exit) ≡ filled (λ v. keyD (getD (now (keys .entry)) v 0)) n (now (ds .entry))) ⌝ }
+{
+    let mut v: usize = 0;
+    while v < n {
+        let k = key_at(keys, v);
+        ws[v] = registers_of(k);
+        ds[v] = delay_of(k);
+        v += 1;
+    }
+}
+
+// The row of block u: its keys, then the numbers that they hold.
 pub fn fill_row(
     n: usize,
     m: usize,
@@ -166,20 +276,16 @@ pub fn fill_row(
     from: &[usize; 256],
     to: &[usize; 256],
     registers: &[u32; 256],
+    costs: &[usize; 256],
     u: usize,
     ws: &mut [u32],
     ds: &mut [u32],
 )
-    requires { ⌜ Wires n m (now from) (now to) (now registers) × Delays n (now delays) × (u < n) × (length (now ws) ≡ n) × (length (now ds) ≡ n) ⌝ }
+    requires { ⌜ Wires n m (now from) (now to) (now registers) × Delays n (now delays) × (u < n) × (length (now ws) ≡ n) × (length (now ds) ≡ n) × Costs (listShape n m (now delays) (now from) (now to)) (held (now registers)) (now costs) ⌝ }
     requires { ⌜ ((b : ℕ) → LoopAt (listShape n m (now delays) (now from) (now to)) (held (now registers)) b → ⊥) ⌝ }
     ensures { λ _. ⌜ RowRight (listShape n m (now (delays .entry)) (now (from .entry)) (now (to .entry))) (held (now (registers .entry))) u (now (ws .exit)) (now (ds .exit)) ⌝ }
 {
-    clear(n, delays, u, ws, ds);
-    let mut done: usize = 0;
-    while done < n {
-        if round(n, m, delays, from, to, registers, u, done, ws, ds) == 0 {
-            return;
-        }
-        done += 1;
-    }
+    let mut keys = [0usize; 64];
+    settle(n, m, delays, from, to, registers, costs, u, &mut keys);
+    unpack(n, &keys, ws, ds);
 }

@@ -7,7 +7,9 @@ ghost use Rattle.sheet.specs.Sheet.{FormedSheet};
 ghost use Rattle.paths.specs.Lists.{held, listShape, Wires, Delays};
 ghost use Rattle.paths.specs.Table.{LoopAt};
 ghost use Rattle.paths.specs.Row.{Rows};
+ghost use Rattle.paths.specs.Keys.{Costs};
 use crate::row::fill_row;
+use crate::row::weigh;
 use sheet::load::load_delays;
 use sheet::load::load_wires;
 
@@ -19,10 +21,11 @@ pub fn fill_table(
     from: &[usize; 256],
     to: &[usize; 256],
     registers: &[u32; 256],
+    costs: &[usize; 256],
     ws: &mut [u32],
     ds: &mut [u32],
 )
-    requires { ⌜ Wires n m (now from) (now to) (now registers) × Delays n (now delays) × (n * n ≤ length (now ws)) × (n * n ≤ length (now ds)) ⌝ }
+    requires { ⌜ Wires n m (now from) (now to) (now registers) × Delays n (now delays) × (n * n ≤ length (now ws)) × (n * n ≤ length (now ds)) × Costs (listShape n m (now delays) (now from) (now to)) (held (now registers)) (now costs) ⌝ }
     requires { ⌜ ((b : ℕ) → LoopAt (listShape n m (now delays) (now from) (now to)) (held (now registers)) b → ⊥) ⌝ }
     ensures { λ _. ⌜ Rows (listShape n m (now (delays .entry)) (now (from .entry)) (now (to .entry))) (held (now (registers .entry))) n (now (ws .entry)) (now (ds .entry)) (now (ws .exit)) (now (ds .exit)) ⌝ }
 {
@@ -37,6 +40,7 @@ pub fn fill_table(
             from,
             to,
             registers,
+            costs,
             u,
             &mut ws[a..e],
             &mut ds[a..e],
@@ -55,7 +59,9 @@ pub fn write_table(s: &[u8], n: usize, m: usize, ws: &mut [u32], ds: &mut [u32])
     let mut to = [0usize; 256];
     let mut registers = [0u32; 256];
     let mut delays = [0u32; 64];
+    let mut costs = [0usize; 256];
     load_wires(s, n, m, &mut from, &mut to, &mut registers);
     load_delays(s, n, &mut delays);
-    fill_table(n, m, &delays, &from, &to, &registers, ws, ds);
+    weigh(n, m, &delays, &to, &registers, &mut costs);
+    fill_table(n, m, &delays, &from, &to, &registers, &costs, ws, ds);
 }

@@ -14,7 +14,7 @@ use lib.Seq.{getD-set-same, getD-set-other}
 use Rattle.sheet.specs.Core.{Shape}
 use Rattle.paths.specs.Lists.{held}
 use Rattle.paths.specs.Table.{Way}
-use Rattle.paths.specs.Row.{baseOf, baseW, baseD, offerW, offerD, Row, Relaxed, Round, Rounded, Preferred}
+use Rattle.paths.specs.Row.{baseW, baseD, offerW, offerD, Row, Relaxed, Round, Rounded}
 use Rattle.paths.specs.Laws.Ahead.{Ahead, fewer, level, ahead-registers, ahead-refl, ahead-trans, ahead-add}
 use Rattle.paths.specs.Laws.Rows.{base-way, base-few, base-small, base-ahead, way-more}
 
@@ -123,45 +123,6 @@ module _ (s : Shape) (w : ℕ → ℕ) (u : ℕ) (g : Limits s w) (u-lt : u < s 
 
   pub round-none : (W D : ℕ → ℕ) → Round s w u 0 W D W D
   round-none W D = record { keeps = λ v l. ahead-refl _ _; wire = λ j l. absurd (omega arith) }
-
--- ---- the code's numbers, tied to the row that they were read from
-module _ {s : Shape} {w : ℕ → ℕ} {u k : ℕ} {ws ds : List ℕ} (row : Row s w u k ws ds) (j f b : ℕ) (f-is : f ≡ s .from j) (b-is : b ≡ baseW u (held ws) f) where
-  base-is : b ≡ baseW u (held ws) (s .from j)
-  base-is = b-is ∙ ap (baseW u (held ws)) f-is
-
-  pub far : b ≡ 4294967295 → Relaxed s w u j ws ds ws ds false
-  far e = (λ h. absurd (omega (arith, base-is)), refl, refl)
-
-  module _ (r start e t d W D : ℕ) (near : b ≡ 4294967295 → ⊥) (fits : b < 4294967296) (r-is : r ≡ w j) (start-is : start ≡ s .delay u)
-      (e-is : e ≡ baseOf start u (held ds) f) (t-is : t ≡ s .to j) (d-is : d ≡ s .delay t) (W-is : W ≡ getD ws t 0) (D-is : D ≡ getD ds t 0) where
-    x-is : b + r ≡ offerW s w u (held ws) j
-    x-is = omega (arith, base-is)
-
-    y-is : e + d ≡ offerD s w u (held ds) j
-    y-is =
-        omega (
-          arith,
-          e-is ∙ ap (λ (k : ℕ). baseOf k u (held ds) f) start-is ∙ ap (baseOf (s .delay u) u (held ds)) f-is,
-          d-is ∙ ap (s .delay) t-is,
-        )
-
-    W-at : W ≡ getD ws (s .to j) 0
-    W-at = W-is ∙ ap (held ws) t-is
-
-    D-at : D ≡ getD ds (s .to j) 0
-    D-at = D-is ∙ ap (held ds) t-is
-
-    pub made-better : (ws′ ds′ : List ℕ) → Ahead (b + r) (e + d) W D → ws′ ≡ set ws t (b + r) → ds′ ≡ set ds t (e + d) → Relaxed s w u j ws ds ws′ ds′ true
-    made-better ws′ ds′ a p q = (omega (arith, base-is), rw (x-is, y-is, W-at, D-at) at a, rw (t-is, x-is) at p, rw (t-is, y-is) at q)
-
-    pub left-alone : Ahead W D (b + r) (e + d) → Relaxed s w u j ws ds ws ds false
-    left-alone a = (λ _. rw (x-is, y-is, W-at, D-at) at a, refl, refl)
-
-pub first-ahead : (x y W D : ℕ) (b : Bool) → Preferred x y W D b → b ≡ true → Ahead x y W D
-first-ahead x y W D b p e = subst (Preferred x y W D) e p
-
-pub second-ahead : (x y W D : ℕ) (b : Bool) → Preferred x y W D b → b ≡ false → Ahead W D x y
-second-ahead x y W D b p e = subst (Preferred x y W D) e p
 
 -- ---- a round that has tried the wires below j; `changed` counts the improvements
 pub record Part (s : Shape) (w : ℕ → ℕ) (u k j : ℕ) (ws₀ ds₀ ws ds : List ℕ) (changed : ℕ) : Type 0 where

@@ -1,4 +1,4 @@
--- Entry after entry is blanked.
+-- Key after key is blanked.
 use borrow.Author.Needs.{needs}
 use native.Mathlib.Omega.{arith}
 use Prim.Native.Nat.{ℕ, _≤_, _<_, _-_}
@@ -10,25 +10,19 @@ use Rattle.paths.proofs.row.blank.Statement.{statement}
 use Rattle.paths.proofs.row.blank.Tie as tie
 
 abbrev Inv-loop : tie.InvT-loop
-Inv-loop n ws₀ ds₀ v₀ ws ds v = (v ≤ n) × (length ws ≡ length ws₀) × (length ds ≡ length ds₀) × (ws ≡ filled (λ _. 4294967295) v ws₀) × (ds ≡ filled (λ _. 0) v ds₀)
+Inv-loop n keys₀ v₀ keys v = (v ≤ n) × (length keys ≡ length keys₀) × (keys ≡ filled (λ _. 18446744071562067968) v keys₀)
 
 abbrev μ-loop : tie.MeasureT-loop
-μ-loop n ws₀ ds₀ v₀ ws ds v = n - v
+μ-loop n keys₀ v₀ keys v = n - v
 
 loop-holds : tie.Need-loop-holds Inv-loop μ-loop
-loop-holds c = (search needs, search needs, search needs, sym (filled-none _ _), sym (filled-none _ _))
+loop-holds c = (search needs, search needs, sym (filled-none _ _))
 
-mul-ws : tie.Need-mul-ws Inv-loop μ-loop
-mul-ws c = search needs
+mul-keys : tie.Need-mul-keys Inv-loop μ-loop
+mul-keys c = search needs
 
-slice-write-ws : tie.Need-slice-write-ws Inv-loop μ-loop
-slice-write-ws c = search needs
-
-mul-ds : tie.Need-mul-ds Inv-loop μ-loop
-mul-ds c = search needs
-
-slice-write-ds : tie.Need-slice-write-ds Inv-loop μ-loop
-slice-write-ds c = search needs
+element-write-keys : tie.Need-element-write-keys Inv-loop μ-loop
+element-write-keys c = search needs
 
 add-v : tie.Need-add-v Inv-loop μ-loop
 add-v c = search needs
@@ -37,16 +31,10 @@ loop-less : tie.Need-loop-less Inv-loop μ-loop
 loop-less c = search needs
 
 loop-again : tie.Need-loop-again Inv-loop μ-loop
-loop-again c = (search needs, simp length-set (omega arith), simp length-set (omega arith), filled-turn _ _ _ _ _ (c .before .loop .inv .3) refl, filled-turn _ _ _ _ _ (c .before .loop .inv .4) refl)
-
-same-length : tie.Need-same-length Inv-loop μ-loop
-same-length c = search needs
-
-same-length-2 : tie.Need-same-length-2 Inv-loop μ-loop
-same-length-2 c = search needs
+loop-again c = (search needs, simp length-set (omega arith), filled-turn _ _ _ _ _ (c .before .loop .inv .2) refl)
 
 returns : tie.Need-returns Inv-loop μ-loop
-returns c = (filled-done _ _ _ _ _ (c .before .loop .inv .3) (omega arith) (omega arith), filled-done _ _ _ _ _ (c .before .loop .inv .4) (omega arith) (omega arith))
+returns c = filled-done _ _ _ _ _ (c .before .loop .inv .2) (omega arith) (omega arith)
 
 pub blank-spec : {M : Type 1} → statement M
 blank-spec =
@@ -55,13 +43,9 @@ blank-spec =
     Inv-loop
     μ-loop
     loop-holds
-    mul-ws
-    slice-write-ws
-    mul-ds
-    slice-write-ds
+    mul-keys
+    element-write-keys
     add-v
     loop-less
     loop-again
-    same-length
-    same-length-2
     returns)

@@ -7,22 +7,23 @@ use mathlib.Core.Logic.{⊎-elim}
 use Prim.Native.Nat.{ℕ, _≤_, _<_, _-_, _*_, _+_}
 use lib.ListN.{length}
 use Rattle.paths.specs.Lists.{listShape, held}
+use Rattle.paths.specs.Keys.{rowW, rowD, Whole}
 use Rattle.paths.specs.Laws.Relax.{Part, part-start, part-next, part-end, row-more}
 use Rattle.paths.specs.Laws.Filling.{limits}
 use Rattle.paths.proofs.row.round.Statement.{statement}
 use Rattle.paths.proofs.row.round.Tie as tie
 
 abbrev Inv-loop : tie.InvT-loop
-Inv-loop n m delays from to registers u done ws₀ ds₀ changed₀ j₀ ws ds changed j = (j ≤ m) × (changed ≤ j) × (length ws ≡ length ws₀) × (length ds ≡ length ds₀) × Part (listShape n m delays from to) (held registers) u (256 * done) j ws₀ ds₀ ws ds changed
+Inv-loop n m delays from to registers costs u start done keys₀ changed₀ j₀ keys changed j = (j ≤ m) × (changed ≤ j) × (length keys ≡ length keys₀) × Whole n keys × Part (listShape n m delays from to) (held registers) u (256 * done) j (rowW n keys₀) (rowD n keys₀) (rowW n keys) (rowD n keys) changed
 
 abbrev μ-loop : tie.MeasureT-loop
-μ-loop n m delays from to registers u done ws₀ ds₀ changed₀ j₀ ws ds changed j = m - j
+μ-loop n m delays from to registers costs u start done keys₀ changed₀ j₀ keys changed j = m - j
 
 loop-holds : tie.Need-loop-holds Inv-loop μ-loop
-loop-holds c = (search needs, search needs, search needs, search needs, part-start _ _ _ _ _ _ (limits _ _ _ _ _ _ (c .before .before .pre .0 .0) (c .before .before .pre .0 .1)) (c .before .before .pre .0 .2) (c .before .before .pre .1))
+loop-holds c = (search needs, search needs, search needs, c .pre .1 .0, part-start _ _ _ _ _ _ (limits _ _ _ _ _ _ (c .pre .0 .0) (c .pre .0 .1)) (c .pre .0 .2) (c .pre .1 .1))
 
 relax-requires : tie.Need-relax-requires Inv-loop μ-loop
-relax-requires c κs = ((c .before .before .before .before .before .before .pre .0 .0, c .before .before .before .before .before .before .pre .0 .1, c .before .before .before .before .before .before .pre .0 .2, c .before .before .loop-test .taken), row-more _ _ _ (limits _ _ _ _ _ _ (c .before .before .before .before .before .before .pre .0 .0) (c .before .before .before .before .before .before .pre .0 .1)) (c .before .before .before .before .before .before .pre .0 .2) _ 16384 _ _ (omega (arith, c .before .before .before .before .before .before .pre)) (c .before .before .before .loop .inv .4 .row))
+relax-requires c κs = ((c .before .before .before .pre .0 .0, c .before .before .before .pre .0 .1, c .before .before .before .pre .0 .2, c .before .loop-test .taken, c .before .before .before .pre .0 .4, c .before .before .before .pre .0 .5), (c .before .before .loop .inv .3, row-more _ _ _ (limits _ _ _ _ _ _ (c .before .before .before .pre .0 .0) (c .before .before .before .pre .0 .1)) (c .before .before .before .pre .0 .2) _ 16384 _ _ (omega (arith, c .before .before .before .pre)) (c .before .before .loop .inv .4 .row)))
 
 add-changed : tie.Need-add-changed Inv-loop μ-loop
 add-changed c = search needs
@@ -34,18 +35,15 @@ loop-less : tie.Need-loop-less Inv-loop μ-loop
 loop-less c = search needs
 
 loop-again : tie.Need-loop-again Inv-loop μ-loop
-loop-again c = let next = part-next _ _ _ _ _ _ (limits _ _ _ _ _ _ (c .before .before .before .before .before .before .before .before .before .before .before .before .pre .0 .0) (c .before .before .before .before .before .before .before .before .before .before .before .before .pre .0 .1)) (c .before .before .before .before .before .before .before .before .before .before .before .before .pre .0 .2) _ _ _ _ _ _ (c .if1 .changed) (c .before .before .before .before .before .before .before .before .before .loop .inv .4) (c .before .before .before .before .before .before .before .before .loop-test .taken) (omega (arith, c .before .before .before .before .before .before .before .before .before .before .before .before .pre)) (c .before .before .before .before .before .relax .result) (c .before .before .before .before .before .relax .ensures) in
+loop-again c = let next = part-next _ _ _ _ _ _ (limits _ _ _ _ _ _ (c .before .before .before .before .before .pre .0 .0) (c .before .before .before .before .before .pre .0 .1)) (c .before .before .before .before .before .pre .0 .2) _ _ _ _ _ _ (c .if1 .changed) (c .before .before .before .before .loop .inv .4) (c .before .before .before .loop-test .taken) (omega (arith, c .before .before .before .before .before .pre)) (c .before .relax .result) (c .before .relax .ensures .relaxed) in
     let p = ⊎-elim (λ w. next (λ _. w .1) (λ e. absurd (true≢false (sym (w .0 .taken) ∙ e)))) (λ w. next (λ e. absurd (true≢false (sym e ∙ w .0 .left))) (λ _. w .1)) (c .if1 .came) in
-    (search needs, ⊎-elim (λ w. omega arith) (λ w. omega arith) (c .if1 .came), p .row .ws-long ∙ sym (c .before .before .before .before .before .before .before .before .before .before .before .before .pre .1 .ws-long), p .row .ds-long ∙ sym (c .before .before .before .before .before .before .before .before .before .before .before .before .pre .1 .ds-long), p)
-
-same-length : tie.Need-same-length Inv-loop μ-loop
-same-length c = search needs
-
-same-length-2 : tie.Need-same-length-2 Inv-loop μ-loop
-same-length-2 c = search needs
+    (search needs, ⊎-elim (λ w. omega arith) (λ w. omega arith) (c .if1 .came), c .before .relax .ensures .whole .long ∙ sym (c .before .before .before .before .before .pre .1 .0 .long), c .before .relax .ensures .whole, p)
 
 returns : tie.Need-returns Inv-loop μ-loop
-returns c = part-end _ _ _ _ _ _ (limits _ _ _ _ _ _ (c .before .before .before .before .pre .0 .0) (c .before .before .before .before .pre .0 .1)) (c .before .before .before .before .pre .0 .2) _ _ _ _ (omega arith) (omega arith) (omega (arith, c .before .before .before .before .pre)) (c .before .loop .inv .4)
+returns c = record {
+  whole = c .before .loop .inv .3;
+  rounded = part-end _ _ _ _ _ _ (limits _ _ _ _ _ _ (c .before .before .pre .0 .0) (c .before .before .pre .0 .1)) (c .before .before .pre .0 .2) _ _ _ _ (omega arith) (omega arith) (omega (arith, c .before .before .pre)) (c .before .loop .inv .4);
+}
 
 pub round-spec : {M : Type 1} → statement M
 round-spec =
@@ -59,6 +57,4 @@ round-spec =
     add-j
     loop-less
     loop-again
-    same-length
-    same-length-2
     returns)

@@ -12,10 +12,10 @@ use Rattle.paths.proofs.table.fill_table.Statement.{statement}
 use Rattle.paths.proofs.table.fill_table.Tie as tie
 
 abbrev Inv-loop : tie.InvT-loop
-Inv-loop n m delays from to registers ws₀ ds₀ u₀ ws ds u = (u ≤ n) × (length ws ≡ length ws₀) × (length ds ≡ length ds₀) × Rows (listShape n m delays from to) (held registers) u ws₀ ds₀ ws ds
+Inv-loop n m delays from to registers costs ws₀ ds₀ u₀ ws ds u = (u ≤ n) × (length ws ≡ length ws₀) × (length ds ≡ length ds₀) × Rows (listShape n m delays from to) (held registers) u ws₀ ds₀ ws ds
 
 abbrev μ-loop : tie.MeasureT-loop
-μ-loop n m delays from to registers ws₀ ds₀ u₀ ws ds u = n - u
+μ-loop n m delays from to registers costs ws₀ ds₀ u₀ ws ds u = n - u
 
 loop-holds : tie.Need-loop-holds Inv-loop μ-loop
 loop-holds c = (search needs, search needs, search needs, rows-none _ _ _ _)
@@ -52,7 +52,7 @@ part-fill-row-end-2 c = omega (arith, row-before (c .before .before .before .bef
 
 fill-row-requires : tie.Need-fill-row-requires Inv-loop μ-loop
 fill-row-requires c κs = let r = row-before (c .before .before .before .before .before .before .args .n) (c .before .before .before .loop .u) (c .before .before .before .before .before .before .args .n) (c .before .before .loop-test .taken) in
-    ((c .before .before .before .before .before .before .pre .0 .0, c .before .before .before .before .before .before .pre .0 .1, c .before .before .loop-test .taken, length-part (c .before .before .before .loop .ws) (c .before .before .before .loop .u * c .before .before .before .before .before .before .args .n) (c .before .before .before .before .before .before .args .n) (omega (arith, r, c .before .before .before .before .before .before .pre .0 .2)), length-part (c .before .before .before .loop .ds) (c .before .before .before .loop .u * c .before .before .before .before .before .before .args .n) (c .before .before .before .before .before .before .args .n) (omega (arith, r, c .before .before .before .before .before .before .pre .0 .3))), c .before .before .before .before .before .before .pre .1)
+    ((c .before .before .before .before .before .before .pre .0 .0, c .before .before .before .before .before .before .pre .0 .1, c .before .before .loop-test .taken, length-part (c .before .before .before .loop .ws) (c .before .before .before .loop .u * c .before .before .before .before .before .before .args .n) (c .before .before .before .before .before .before .args .n) (omega (arith, r, c .before .before .before .before .before .before .pre .0 .2)), length-part (c .before .before .before .loop .ds) (c .before .before .before .loop .u * c .before .before .before .before .before .before .args .n) (c .before .before .before .before .before .before .args .n) (omega (arith, r, c .before .before .before .before .before .before .pre .0 .3)), c .before .before .before .before .before .before .pre .0 .4), c .before .before .before .before .before .before .pre .1)
 
 add-u : tie.Need-add-u Inv-loop μ-loop
 add-u c = search needs
