@@ -8,8 +8,7 @@ use lib.Signed.{leZ, ltZ}
 use lib.ListN.{length, getD, set, replicate}
 use Rattle.sheet.specs.Bytes.{u32At}
 use Rattle.sheet.specs.Core.{Core, coreOf, blocksIn, wiresIn, blockAt, wireAt, delayIn, lowerIn, upperIn, fromIn, toIn, registersIn, spareIn}
-use Rattle.paths.specs.Path.{registersOn, delayOn}
-use Rattle.paths.specs.Laws.Path.{endOf}
+use Rattle.paths.specs.Path.{registersOn, delayOn, endOf}
 use Rattle.moves.specs.Lags.{lagsIn, movedBy}
 use Rattle.loops.specs.Link.{Link, wire, path, upper, lower, ceiling, linkA, sumK}
 use Rattle.loops.specs.Test.{Parsed, links, unreadable, linksOf, joinsTest, chainTest, validTest}

@@ -9,9 +9,8 @@ use lib.Ieee.Bits.{is-true}
 use lib.Dec.{T, eqb, ltb, leb, leb→le, ltb→lt, eqb→eq}
 use lib.Ieee.Fits.{and-l, and-r}
 use Rattle.sheet.specs.Core.{Core}
-use Rattle.paths.specs.Path.{Joins, registersOn, delayOn}
+use Rattle.paths.specs.Path.{Joins, registersOn, delayOn, endOf}
 use Rattle.paths.specs.Table.{Best}
-use Rattle.paths.specs.Laws.Path.{endOf}
 use Rattle.paths.specs.Laws.Ahead.{Ahead, fewer, level, ahead-registers, ahead-delay, ahead-refl, ahead-trans, ahead-add, ahead-as}
 use Rattle.loops.specs.Test.{joinsTest}
 use Rattle.loops.specs.Laws.Test.{joins-sound}
