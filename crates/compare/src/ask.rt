@@ -82,7 +82,7 @@ fn table(out: &mut [u8; 4096], used: &mut usize, sheet: &[u8], a: usize, b: usiz
 {
     let mut registers = marked();
     let mut delays = marked();
-    let answer = paths::path_table(sheet, &mut registers[..a], &mut delays[..b]);
+    let answer = tables::path_table(sheet, &mut registers[..a], &mut delays[..b]);
     let refused = answer.number != 0;
     head(out, used, 3, answer);
     let r = entries(sheet, a);

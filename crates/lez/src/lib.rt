@@ -1,10 +1,11 @@
 // The seven questions with C names: the number is returned, place and value are written through pointers on every call.
 ghost use mathlib.Core.Path.{_≡_};
 ghost use Rattle.sheet.specs.Rules.{answer};
-ghost use Rattle.paths.specs.Questions.{CheckRight, TableRight, tableOutcome};
+ghost use Rattle.paths.specs.Questions.{CheckRight};
+ghost use Rattle.tables.specs.Questions.{TableRight, tableOutcome};
 ghost use Rattle.moves.specs.Move.{MoveRight, moveOutcome};
 ghost use Rattle.loops.specs.Loop.{LoopRight};
-ghost use Rattle.periods.specs.Questions.{PeriodRight, LagsRight, BestRight, lagsOutcome};
+ghost use Rattle.promises.specs.Questions.{PeriodRight, LagsRight, BestRight, lagsOutcome};
 use sheet::answer::Answer;
 
 // Writes place and value where the caller wants them, and gives the number.
@@ -43,7 +44,7 @@ pub extern "C" fn lez_path_table(
 ) -> u32
     ensures { λ r. ⌜ TableRight (now (sheet .entry)) (now (registers .entry)) (now (delays .entry)) (tableOutcome (answer r (now (place .exit)) (now (value .exit))) (now (registers .exit)) (now (delays .exit))) ⌝ }
 {
-    hand_over(paths::path_table(sheet, registers, delays), place, value)
+    hand_over(tables::path_table(sheet, registers, delays), place, value)
 }
 
 // Move by a lag list.

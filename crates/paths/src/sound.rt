@@ -5,11 +5,14 @@ ghost use Rattle.sheet.specs.Rules.{Staged};
 ghost use Rattle.sheet.specs.Sheet.{Framed, FormedSheet};
 ghost use Rattle.paths.specs.Questions.{loopRules, soundRules};
 use crate::loops::first_loop;
+use crate::rise::rise;
 use sheet::answer::Stage;
 use sheet::answer::refusal;
 use sheet::entries::check_entries;
 use sheet::load::load_wires;
 
+// With delays of 1, heights that settle show that there is no loop, and one above n can stop the sweeps: it is on the way
+// round a loop. Only where they do not settle is the first loop searched for.
 fn check_loops(s: &[u8], n: usize, m: usize) -> Stage
     requires { ⌜ FormedSheet (now s) × (n ≡ blocksIn (now s)) × (m ≡ wiresIn (now s)) ⌝ }
     ensures { λ r. ⌜ Staged (loopRules (now (s .entry))) r ⌝ }
@@ -18,6 +21,11 @@ fn check_loops(s: &[u8], n: usize, m: usize) -> Stage
     let mut to = [0usize; 256];
     let mut registers = [0u32; 256];
     load_wires(s, n, m, &mut from, &mut to, &mut registers);
+    let ones = [1u32; 64];
+    let mut heights = [0u32; 64];
+    if rise(n, m, &ones, &from, &to, &registers, n as u32, &mut heights) {
+        return Stage::Pass;
+    }
     let b = first_loop(n, m, &from, &to, &registers);
     if b < n {
         return Stage::Refuse(refusal(7, b));

@@ -1,56 +1,58 @@
-// Periods and lags: the period as it stands, lags at a period, best period. They are answered from what the path table promises.
+// Periods and lags: the period as it stands, from the longest register-free paths; lags at a period and best period, from
+// what the path table promises.
 ghost use mathlib.Core.Path.{_≡_};
-ghost use lib.ListN.{length};
-ghost use Rattle.periods.specs.Longest.{Longest, Longer};
-ghost use Rattle.periods.specs.Questions.{PeriodRight, LagsRight, BestRight, lagsOutcome};
-use crate::lags::Aim;
-use paths::path_table;
+ghost use Rattle.sheet.specs.Core.{blocksIn, wiresIn, registersIn, shapeOf};
+ghost use Rattle.sheet.specs.Sheet.{Framed};
+ghost use Rattle.paths.specs.Table.{Period};
+ghost use Rattle.paths.specs.Questions.{SoundSheet};
+ghost use Rattle.promises.specs.Questions.{PeriodRight, LagsRight, BestRight, lagsOutcome};
+use paths::rise::longest_free;
+use paths::sound::check_sound;
+use refusals::Aim;
 use sheet::answer::Answer;
+use sheet::answer::Stage;
 use sheet::answer::done;
 use sheet::frame::Frame;
 use sheet::frame::read_frame;
+use sheet::load::load_delays;
+use sheet::load::load_wires;
 
 mod lags; // lags at a period, and at the least one
-mod load; // the lists of the solver, and the lags that it found
+mod quick; // the quick way to lags
 
-// The longer delay, where d counts only with 0 registers.
-fn longer(w: u32, d: u32, best: u32) -> u32
-    ensures { λ r. ⌜ Longer w d best r ⌝ }
+// The period of a sound sheet.
+fn period_sound(s: &[u8], n: usize, m: usize) -> u32
+    requires { ⌜ SoundSheet (now s) × (n ≡ blocksIn (now s)) × (m ≡ wiresIn (now s)) ⌝ }
+    ensures { λ r. ⌜ Period (shapeOf (now (s .entry))) (registersIn (now (s .entry))) r ⌝ }
 {
-    if w == 0 {
-        if best < d {
-            return d;
-        }
-    }
-    best
+    let mut from = [0usize; 256];
+    let mut to = [0usize; 256];
+    let mut registers = [0u32; 256];
+    let mut delays = [0u32; 64];
+    load_wires(s, n, m, &mut from, &mut to, &mut registers);
+    load_delays(s, n, &mut delays);
+    longest_free(n, m, &delays, &from, &to, &registers)
 }
 
-// The longest delay among entries with 0 registers; entries that no pair has are 0 and 0.
-fn longest_free(registers: &[u32; 4096], delays: &[u32; 4096]) -> u32
-    requires { ⌜ (length (now registers) ≡ 4096) × (length (now delays) ≡ 4096) ⌝ }
-    ensures { λ r. ⌜ Longest (now (registers .entry)) (now (delays .entry)) 4096 r ⌝ }
+// The period of a sheet whose header is right.
+fn period_framed(s: &[u8], n: usize, m: usize) -> Answer
+    requires { ⌜ Framed (now s) × (n ≡ blocksIn (now s)) × (m ≡ wiresIn (now s)) ⌝ }
+    ensures { λ r. ⌜ PeriodRight (now (s .entry)) r ⌝ }
 {
-    let mut best = 0;
-    let mut i: usize = 0;
-    while i < 4096 {
-        best = longer(registers[i], delays[i], best);
-        i += 1;
+    if let Stage::Refuse(a) = check_sound(s, n, m) {
+        return a;
     }
-    best
+    done(period_sound(s, n, m))
 }
 
 // The period as it stands: the largest delay of a register-free path.
 pub fn period(sheet: &[u8]) -> Answer
     ensures { λ r. ⌜ PeriodRight (now (sheet .entry)) r ⌝ }
 {
-    let mut registers = [0u32; 4096];
-    let mut delays = [0u32; 4096];
-    let a = path_table(sheet, &mut registers, &mut delays);
-    let number = a.number;
-    if number != 0 {
-        return a;
+    match read_frame(sheet) {
+        Frame::Refused(a) => a,
+        Frame::Counts(n, m) => period_framed(sheet, n, m),
     }
-    done(longest_free(&registers, &delays))
 }
 
 // Lags at period c: the largest permitted lags that meet it, or a loop that proves that there are none.

@@ -6,3 +6,4 @@ pub mod Rules
 pub mod Sheet
 pub mod Formed
 pub mod Filled
+pub mod Sum

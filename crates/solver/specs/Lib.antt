@@ -1,5 +1,4 @@
 pub mod System
 pub mod Walk
 pub mod State
-pub mod Least
 pub mod Laws

@@ -6,7 +6,7 @@ use Prim.Native.Nat.{ℕ, _+_, _*_, _≤_, _<_}
 use lib.ListN.{length, getD}
 use Rattle.solver.specs.System.{Given, Rule, Link, Fit, Solution, Holds}
 use Rattle.solver.specs.Walk.{Rooted, Hit}
-use Rattle.solver.specs.Laws.Sum.{sum}
+use Rattle.sheet.specs.Laws.Sum.{sum}
 use Rattle.solver.specs.declared.Turn.{Turn}
 use Rattle.solver.specs.declared.Turn.the-variants as T
 use Rattle.solver.specs.declared.End.{End}

@@ -38,21 +38,13 @@ given n m p lower upper from to wires ceilings registers delays = record {
   delays = delays;
 }
 
--- the same with another period
-abbrev pub atPeriod : Given → ℕ → Given
-atPeriod g p = record {
-  n = g .n;
-  m = g .m;
-  period = p;
-  lower = g .lower;
-  upper = g .upper;
-  from = g .from;
-  to = g .to;
-  wires = g .wires;
-  ceilings = g .ceilings;
-  registers = g .registers;
-  delays = g .delays;
-}
+-- the same with another period and path table
+abbrev pub tabled : Given → ℕ → List ℕ → List ℕ → Given
+tabled g p registers delays = given (g .n) (g .m) p (g .lower) (g .upper) (g .from) (g .to) (g .wires) (g .ceilings) registers delays
+
+-- no delay is above `most`
+pub record Within (delays : List ℕ) (most : ℕ) : Type 0 where
+  pub all : (i : ℕ) → getD delays i 0 ≤ most
 
 -- rule i says lag(a) - lag(b) <= k: i is 1 for a path, 2 + j for wire j, 258 + j for the ceiling of wire j
 pub data Rule (g : Given) (i a b k : ℕ) : Type 0 where
@@ -82,7 +74,7 @@ pub record Fit (g : Given) : Type 0 where
   pub to-block : (j : ℕ) → j < g .m → getD (g .to) j 0 < g .n
   pub wires-small : (j : ℕ) → j < g .m → getD (g .wires) j 0 ≤ 200000
   pub ceilings-small : (j : ℕ) → j < g .m → getD (g .ceilings) j 0 ≤ 200000
-  pub paths-small : (a b : ℕ) → a < g .n → b < g .n → 0 < getD (g .delays) (a * g .n + b) 0 → getD (g .registers) (a * g .n + b) 0 ≤ 150000
+  pub paths-small : (a b : ℕ) → a < g .n → b < g .n → g .period < getD (g .delays) (a * g .n + b) 0 → getD (g .registers) (a * g .n + b) 0 ≤ 150000
   pub host-lower : getD (g .lower) 0 0 ≡ 32768
   pub host-upper : getD (g .upper) 0 0 ≡ 32768
   pub ordered : (b : ℕ) → b < g .n → getD (g .lower) b 0 ≤ getD (g .upper) b 0

@@ -1,11 +1,11 @@
 // The solver: from the upper limits down to the largest lags that keep all rules, or to a rule that leaves none.
 ghost use mathlib.Core.Path.{_≡_};
-ghost use Rattle.solver.specs.System.{Given};
+ghost use Rattle.solver.specs.System.{Given, Within};
 ghost use Rattle.solver.specs.State.{State, Lists, Turned, AllHold, Settled};
+use crate::sweep::longest_delay;
 use crate::sweep::sweep_paths;
 use crate::sweep::sweep_wires;
 
-pub mod least; // the least period that has a solution
 pub mod walk; // links followed from block to block
 mod relax; // one rule
 mod sweep; // the rules of all wires, of all ceilings, of the path table
@@ -22,11 +22,12 @@ pub enum End {
     Stuck(usize, usize, usize),
 }
 
-// One round over all rules.
+// One round over all rules. There are path rules only where the longest delay exceeds the period.
 fn round(
     n: usize,
     m: usize,
     period: u32,
+    longest: u32,
     lower: &[u32; 64],
     from: &[usize; 256],
     to: &[usize; 256],
@@ -39,6 +40,7 @@ fn round(
     up: &mut [usize; 64],
 ) -> Turn
     requires { ⌜ ((g : Given) × State g (now e) (now par) (now up) × Lists g (now lower) (now from) (now to) (now wires) (now ceilings) (now registers) (now delays) n m period) ⌝ }
+    requires { ⌜ Within (now delays) longest ⌝ }
     ensures { λ r. ⌜ ((g : Given) → State g (now (e .entry)) (now (par .entry)) (now (up .entry)) → Lists g (now (lower .entry)) (now (from .entry)) (now (to .entry)) (now (wires .entry)) (now (ceilings .entry)) (now (registers .entry)) (now (delays .entry)) n m period → Turned g (AllHold g) 4608 (now (e .entry)) (now (e .exit)) (now (par .exit)) (now (up .exit)) r) ⌝ }
 {
     let mut changed: usize = 0;
@@ -49,6 +51,9 @@ fn round(
     match sweep_wires(n, m, 258, lower, to, from, ceilings, e, par, up) {
         Turn::Broken(i, a, b) => return Turn::Broken(i, a, b),
         Turn::Kept(k) => changed += k,
+    }
+    if longest <= period {
+        return Turn::Kept(changed);
     }
     match sweep_paths(n, period, lower, registers, delays, e, par, up) {
         Turn::Broken(i, a, b) => return Turn::Broken(i, a, b),
@@ -76,11 +81,13 @@ pub fn settle(
     requires { ⌜ ((g : Given) × State g (now e) (now par) (now up) × Lists g (now lower) (now from) (now to) (now wires) (now ceilings) (now registers) (now delays) n m period) ⌝ }
     ensures { λ r. ⌜ ((g : Given) → State g (now (e .entry)) (now (par .entry)) (now (up .entry)) → Lists g (now (lower .entry)) (now (from .entry)) (now (to .entry)) (now (wires .entry)) (now (ceilings .entry)) (now (registers .entry)) (now (delays .entry)) n m period → Settled g (now (e .exit)) (now (par .exit)) (now (up .exit)) r) ⌝ }
 {
+    let longest = longest_delay(delays);
     loop {
         match round(
             n,
             m,
             period,
+            longest,
             lower,
             from,
             to,

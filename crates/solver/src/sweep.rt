@@ -1,7 +1,8 @@
-// Sweeps: the rules of a kind, one after another.
+// Sweeps: the rules of a kind, one after another; and whether there is a path rule at all.
 ghost use mathlib.Core.Path.{_≡_};
-ghost use Prim.Native.Nat.{_*_, _<_};
-ghost use Rattle.solver.specs.System.{Given};
+ghost use Prim.Native.Nat.{_*_, _<_, _≤_};
+ghost use lib.ListN.{length};
+ghost use Rattle.solver.specs.System.{Given, Within};
 ghost use Rattle.solver.specs.State.{State, Turned, Wires, WiresHold, Paths, RowHolds, PathsHold};
 use crate::Turn;
 use crate::relax::relax;
@@ -90,4 +91,27 @@ pub fn sweep_paths(
         u += 1;
     }
     Turn::Kept(changed)
+}
+
+fn larger(x: u32, y: u32) -> u32
+    ensures { λ r. ⌜ (x ≤ r) × (y ≤ r) ⌝ }
+{
+    if x < y {
+        return y;
+    }
+    x
+}
+
+// The longest delay of the path table: at a period that is no shorter there is no path rule.
+pub fn longest_delay(delays: &[u32; 4096]) -> u32
+    requires { ⌜ length (now delays) ≡ 4096 ⌝ }
+    ensures { λ r. ⌜ Within (now (delays .entry)) r ⌝ }
+{
+    let mut longest = 0;
+    let mut i = 0;
+    while i < 4096 {
+        longest = larger(longest, delays[i]);
+        i += 1;
+    }
+    longest
 }

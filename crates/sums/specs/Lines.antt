@@ -9,13 +9,14 @@ use mir.Syntax.{w16}
 use mir.Val.{ofZ}
 use Rattle.sheet.specs.Core.{coreOf, blocksIn}
 use Rattle.sheet.specs.Rules.{answer}
-use Rattle.paths.specs.Questions.{CheckRight, TableOutcome, TableRight}
+use Rattle.paths.specs.Questions.{CheckRight}
+use Rattle.tables.specs.Questions.{TableOutcome, TableRight}
 use Rattle.moves.specs.Lags.{lagsIn, Meets}
 use Rattle.moves.specs.Move.{moveOutcome, MoveRight}
 use Rattle.loops.specs.Link.{Link, sumK, ValidLoop}
 use Rattle.loops.specs.Link as L
 use Rattle.loops.specs.Loop.{LoopRight}
-use Rattle.periods.specs.Questions.{PeriodRight, lagsOutcome, wordsNeeded, LagsRight, BestRight}
+use Rattle.promises.specs.Questions.{PeriodRight, lagsOutcome, wordsNeeded, LagsRight, BestRight}
 
 -- ---- sheets, written down block by block and wire by wire; what is claimed is of their bytes
 -- a block with its delay and its lower and upper lag; a wire with its two ends and its registers

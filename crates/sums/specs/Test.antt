@@ -12,7 +12,7 @@ use Rattle.paths.specs.Path.{registersOn, delayOn, endOf}
 use Rattle.moves.specs.Lags.{lagsIn, movedBy}
 use Rattle.loops.specs.Link.{Link, wire, path, upper, lower, ceiling, linkA, sumK}
 use Rattle.loops.specs.Test.{Parsed, links, unreadable, linksOf, joinsTest, chainTest, validTest}
-use Rattle.periods.specs.Questions.{wordsNeeded}
+use Rattle.promises.specs.Questions.{wordsNeeded}
 use Rattle.sums.specs.Lines.{Chains, Line, sound, period, entry, best, lagsAt, meet, slow, stuck, loopYes, loopNo, moves, leaves}
 
 -- ---- tests put together

@@ -1,13 +1,21 @@
--- The solver's lists hold a sheet's numbers and its path table.
+-- The solver's lists hold a sheet's numbers, and its path table where there is a path rule.
 use mathlib.Core.Path.{_≡_}
 use mathlib.Core.List.{List}
-use Prim.Native.Nat.{ℕ, _+_, _<_}
+use Prim.Native.Nat.{ℕ, _+_, _*_, _<_}
 use lib.ListN.{getD}
 use Rattle.sheet.specs.Lag.{excess}
 use Rattle.sheet.specs.Core.{blocksIn, wiresIn, lowerIn, upperIn, fromIn, toIn, registersIn, shapeOf, coreOf}
 use Rattle.paths.specs.Table.{Table}
 use Rattle.paths.specs.Questions.{SoundSheet}
 use Rattle.solver.specs.System.{Given}
+
+-- there is a path rule: some pair's delay exceeds the period
+pub record Slow (g : Given) : Type 0 where
+  pub a : ℕ
+  pub b : ℕ
+  pub a-block : a < g .n
+  pub b-block : b < g .n
+  pub slow : g .period < getD (g .delays) (a * g .n + b) 0
 
 pub record Stands (s : List ℕ) (g : Given) : Type 0 where
   pub sound : SoundSheet s
@@ -20,4 +28,4 @@ pub record Stands (s : List ℕ) (g : Given) : Type 0 where
   -- 01's column "k", as code holds it: kinds 1 and 5
   pub wires-is : (j : ℕ) → j < wiresIn s → getD (g .wires) j 0 ≡ registersIn s j + 32768
   pub ceilings-is : (j : ℕ) → j < wiresIn s → getD (g .ceilings) j 0 + registersIn s j ≡ coreOf s .ceiling j + 32768
-  pub table : Table (shapeOf s) (registersIn s) (g .registers) (g .delays)
+  pub table : Slow g → Table (shapeOf s) (registersIn s) (g .registers) (g .delays)

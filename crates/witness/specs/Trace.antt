@@ -17,6 +17,11 @@ pub record Tabled (s : List ℕ) (n : ℕ) (registers delays : List ℕ) : Type 
   pub delays-long : length delays ≡ 4096
   pub table : Table (shapeOf s) (registersIn s) registers delays
 
+-- a sound sheet, with its path table where the link number i is a path's
+pub record Known (s : List ℕ) (n : ℕ) (registers delays : List ℕ) (i : ℕ) : Type 0 where
+  pub sound : SoundSheet s
+  pub tabled : i ≡ 1 → Tabled s n registers delays
+
 -- where a wire out of block f starts in row u: from the bare start block, or from the row's entry
 abbrev pub Based : ℕ → ℕ → ℕ → ℕ → ℕ → Type 0
 Based start u f entry r = (f ≡ u → r ≡ start) × ((f ≡ u → ⊥) → r ≡ entry)

@@ -6,7 +6,7 @@ ghost use lib.IntN.{ℤ};
 ghost use lib.ListN.{length, getD, set, drop};
 ghost use lib.Seq.{sets};
 ghost use Rattle.sheet.specs.Core.{coreOf};
-ghost use Rattle.witness.specs.Trace.{Tabled};
+ghost use Rattle.witness.specs.Trace.{Tabled, Known};
 ghost use Rattle.witness.specs.Written.{Asked, PathWritten, LinkWritten};
 use crate::trace::trace;
 
@@ -76,7 +76,7 @@ pub fn write_link(
     words: &mut [u16],
     at: usize,
 ) -> usize
-    requires { ⌜ Tabled (now s) n (now registers) (now delays) × (at + (n + 2) ≤ length (now words)) ⌝ }
+    requires { ⌜ Known (now s) n (now registers) (now delays) i × (at + (n + 2) ≤ length (now words)) ⌝ }
     requires { ⌜ ((p : ℕ) × (k : ℤ) × Asked (coreOf (now s)) p i a b k) ⌝ }
     ensures { λ r. ⌜ ((p : ℕ) → (k : ℤ) → Asked (coreOf (now (s .entry))) p i a b k → LinkWritten (coreOf (now (s .entry))) p i a b k (now (words .entry)) (now (words .exit)) at r) ⌝ }
 {

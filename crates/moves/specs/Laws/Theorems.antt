@@ -19,9 +19,11 @@ use Rattle.sheet.specs.Laws.Formed.{formed-core, frame-exact, frame-nonzero}
 use Rattle.sheet.specs.declared.answer.Answer.{Answer}
 use Rattle.paths.specs.Path.{Step, Walks, walked}
 use Rattle.paths.specs.Table.{Entry, best, none}
-use Rattle.paths.specs.Questions.{SoundSheet, soundRules, roomRules, KeptFrom, CheckRight, TableOutcome, TableDone, TableRight}
-use Rattle.paths.specs.Laws.Questions.{sound-exact, sound-nonzero, room-nonzero, sound-sheet, sheet-sound, sound-checks, table-means}
-use Rattle.paths.specs.Laws.Entry.{entry-unique}
+use Rattle.paths.specs.Questions.{SoundSheet, soundRules, roomRules, KeptFrom, CheckRight}
+use Rattle.tables.specs.Questions.{TableOutcome, TableDone, TableRight}
+use Rattle.paths.specs.Laws.Questions.{sound-exact, sound-nonzero, room-nonzero, sound-sheet, sheet-sound, sound-checks}
+use Rattle.tables.specs.Laws.Questions.{table-means}
+use Rattle.tables.specs.Laws.Entry.{entry-unique}
 use Rattle.paths.specs.Laws.Same.{same-sym, joins-same}
 use Rattle.moves.specs.Lags.{lagsIn, InRange, Permitted, Meets, Larger, Smaller}
 use Rattle.moves.specs.Move.{MovedSheet, lagRules, MoveOutcome, moveOutcome, MoveDone, moveAfterFrame, MoveRight}

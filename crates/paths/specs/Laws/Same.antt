@@ -69,7 +69,7 @@ module _ {s t : Shape} {w x : ℕ → ℕ} (e : SameWires s t w x) where
     delay-same u (j ∷ ws) v h =
         omega (arith, d u (h .0), delay-same (s .to j) ws v (h .4), ap (λ (b : ℕ). delayOn t b ws) (e .to-is j (h .1)))
 
-    way-same : (u v W D : ℕ) → Way s w u v W D → Way t x u v W D
+    pub way-same : (u v W D : ℕ) → Way s w u v W D → Way t x u v W D
     way-same u v W D p = record {
       wires = p .wires;
       joins = joins-same u (p .wires) v (p .joins);

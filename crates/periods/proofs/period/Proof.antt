@@ -1,42 +1,37 @@
--- The table's refusals are the period's; else the longest delay without a register is the period.
+-- The header's refusals come first.
 use native.Mathlib.Omega.{arith}
-use mathlib.Core.Path.{_≡_}
-use Prim.Native.Nat.{ℕ}
-use lib.ListN.{length-replicate}
-use Rattle.periods.specs.Laws.Period.{period-refused, period-found}
+use Rattle.sheet.specs.Laws.Sheet.{frame-read, frame-refused}
+use Rattle.promises.specs.Laws.Period.{period-refused}
 use borrow.Author.Needs.{needs}
 use Rattle.periods.proofs.period.Statement.{statement}
 use Rattle.periods.proofs.period.Tie as tie
 
-slice-aggregate-path-table : tie.Need-slice-aggregate-path-table
-slice-aggregate-path-table c = search needs
+read-frame-requires : tie.Need-read-frame-requires
+read-frame-requires c κs = search needs
 
-slice-aggregate-path-table-2 : tie.Need-slice-aggregate-path-table-2
-slice-aggregate-path-table-2 c = search needs
+enum-known-a : tie.Need-enum-known-a
+enum-known-a c = search needs
 
-path-table-requires : tie.Need-path-table-requires
-path-table-requires c κs = search needs
+enum-known-n : tie.Need-enum-known-n
+enum-known-n c = search needs
+
+period-framed-requires : tie.Need-period-framed-requires
+period-framed-requires c κs = let f = frame-read (c .before .before .before .before .before .args .sheet .now) (c .before .before .before .read-frame .result) _ _ (c .before .before .before .read-frame .ensures) (c .before .n .given .1) in
+    (f .2, f .0, f .1)
 
 returns : tie.Need-returns
-returns c = period-refused (c .before .before .before .before .before .before .before .args .sheet .now) _ (c .before .before .before .path-table .ensures) (c .if1 .taken)
-
-longest-free-requires : tie.Need-longest-free-requires
-longest-free-requires c κs = search needs
-
-done-requires : tie.Need-done-requires
-done-requires c κs = search needs
+returns c = period-refused (c .before .before .before .before .before .args .sheet .now) _ (frame-refused (c .before .before .before .before .before .args .sheet .now) (c .before .before .before .read-frame .result) _ (c .before .before .before .read-frame .ensures) (c .before .a .given .1))
 
 returns-2 : tie.Need-returns-2
-returns-2 c = rw (c .done .ensures) (period-found (c .before .before .before .before .before .before .before .before .before .before .before .args .sheet .now) _ (c .before .before .before .before .before .before .before .path-table .ensures) (c .before .before .before .before .if1 .left) _ (c .before .longest-free .ensures))
+returns-2 c = c .period-framed .ensures
 
 pub period-spec : {M : Type 1} → statement M
 period-spec =
     tie.close
     (tie.spec
-    slice-aggregate-path-table
-    slice-aggregate-path-table-2
-    path-table-requires
+    read-frame-requires
+    enum-known-a
+    enum-known-n
+    period-framed-requires
     returns
-    longest-free-requires
-    done-requires
     returns-2)

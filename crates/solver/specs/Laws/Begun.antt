@@ -1,18 +1,29 @@
--- Where the solver begins, every block at its upper limit; and a state at one period is one at every shorter period.
+-- Where the solver begins, every block at its upper limit; and a state without path rules is one with the rules of a path table.
 -- Assumes nothing.
-use Prim.Native.Nat.{ℕ, zero, suc, _+_, _<_, _≤_}
+use Prim.Native.Nat.{ℕ, zero, suc, _+_, _*_, _<_, _≤_}
 use mathlib.Core.Path.{_≡_, refl, ap, sym, _∙_}
 use mathlib.Core.List.{List}
 use native.Mathlib.Omega.{arith}
-use native.Mathlib.Decide.{ℕ-discrete}
-use lib.ListN.{length, getD, replicate, getD-replicate, length-replicate}
-use Rattle.solver.specs.System.{Given, Rule, Rule.path, Rule.wire, Rule.ceiling, Link, Link.rule, Link.upper, Fit, Solution, Holds, atPeriod}
+use native.Mathlib.Decide.{ℕ-discrete, decLt}
+use lib.ListN.{length, getD, replicate, getD-replicate, length-replicate, List·getD-eq-default}
+use Rattle.solver.specs.System.{Given, Rule, Rule.path, Rule.wire, Rule.ceiling, Link, Link.rule, Link.upper, Fit, Solution, Holds, tabled, Within}
 use Rattle.solver.specs.Walk.{Depth, Rooted}
 use Rattle.solver.specs.State.{State, AllHold}
 
 -- no links yet: every block is held by its upper limit (number 0), which leads to the host
 abbrev pub none : List ℕ
 none = replicate 64 0
+
+-- no path table yet
+abbrev pub blank : List ℕ
+blank = replicate 4096 0
+
+pub blank-quick : (period : ℕ) → Within blank period
+blank-quick period = record { all = λ i. go i (decLt i 4096) }
+  where
+    go : (i : ℕ) → Dec (i < 4096) → getD blank i 0 ≤ period
+    go i (yes h) = omega (arith, getD-replicate {A = ℕ} 4096 i 0 0 h)
+    go i (no h) = omega (arith, List·getD-eq-default {A = ℕ} blank 0 {n = i} (omega (arith, length-replicate {A = ℕ} 4096 0)))
 
 module _ {g : Given} (F : Fit g) where
   none-at : (b : ℕ) → b < g .n → getD none b 0 ≡ 0
@@ -48,48 +59,24 @@ module _ {g : Given} (F : Fit g) where
         );
       }
 
--- ---- a shorter period adds rules and takes none away
-module _ {g : Given} (q : ℕ) (le : q ≤ g .period) where
-  rule-stays : {i a b k : ℕ} → Rule g i a b k → Rule (atPeriod g q) i a b k
-  rule-stays (path ei ha hb hd ek) = path ei ha hb (omega arith) ek
+-- ---- a path table and a period, where there was no path rule: rules are added, none is taken away
+module _ {g : Given} (quick : Within (g .delays) (g .period)) (p : ℕ) (registers delays : List ℕ) where
+  rule-stays : {i a b k : ℕ} → Rule g i a b k → Rule (tabled g p registers delays) i a b k
+  rule-stays {a = a} {b = b} (path ei ha hb hd ek) = absurd (omega (arith, quick .all (a * g .n + b)))
   rule-stays (wire j hj ei ea eb ek) = wire j hj ei ea eb ek
   rule-stays (ceiling j hj ei ea eb ek) = ceiling j hj ei ea eb ek
 
-  link-stays : {i a b k : ℕ} → Link g i a b k → Link (atPeriod g q) i a b k
+  link-stays : {i a b k : ℕ} → Link g i a b k → Link (tabled g p registers delays) i a b k
   link-stays (rule r) = rule (rule-stays r)
   link-stays (upper ei eb ek) = upper ei eb ek
 
-  solution-stays : {s : ℕ → ℕ} → Solution (atPeriod g q) s → Solution g s
+  solution-stays : {s : ℕ → ℕ} → Solution (tabled g p registers delays) s → Solution g s
   solution-stays sol = record { keeps = λ i a b k r. sol .keeps i a b k (rule-stays r); low = sol .low; high = sol .high }
 
-  pub fit-stays : Fit g → Fit (atPeriod g q)
-  fit-stays F = record {
-    some-block = F .some-block;
-    few-blocks = F .few-blocks;
-    few-wires = F .few-wires;
-    lower-long = F .lower-long;
-    upper-long = F .upper-long;
-    from-long = F .from-long;
-    to-long = F .to-long;
-    wires-long = F .wires-long;
-    ceilings-long = F .ceilings-long;
-    registers-long = F .registers-long;
-    delays-long = F .delays-long;
-    from-block = F .from-block;
-    to-block = F .to-block;
-    wires-small = F .wires-small;
-    ceilings-small = F .ceilings-small;
-    paths-small = F .paths-small;
-    host-lower = F .host-lower;
-    host-upper = F .host-upper;
-    ordered = F .ordered;
-    upper-small = F .upper-small;
-  }
-
-  pub state-stays : {e par up : List ℕ} → State g e par up → State (atPeriod g q) e par up
-  state-stays St =
+  pub state-stays : {e par up : List ℕ} → Fit (tabled g p registers delays) → State g e par up → State (tabled g p registers delays) e par up
+  state-stays F St =
       record {
-        fit = fit-stays (St .fit);
+        fit = F;
         e-long = St .e-long;
         par-long = St .par-long;
         up-long = St .up-long;

@@ -10,7 +10,7 @@ use lib.Seq.{getD-set-same, getD-set-other}
 use Rattle.solver.specs.System.{Given, Rule, Rule.path, Rule.wire, Rule.ceiling, Link, Link.rule, Link.upper, Fit, Solution, Holds}
 use Rattle.solver.specs.Walk.{Depth, Rooted, Miss}
 use Rattle.solver.specs.State.{State}
-use Rattle.solver.specs.Laws.Sum.{sum, sum-set}
+use Rattle.sheet.specs.Laws.Sum.{sum, sum-set}
 use Rattle.solver.specs.Laws.Walk.{rooted-set}
 
 -- a rule's ends are blocks, and its k is small enough for code
@@ -20,7 +20,7 @@ pub record Ends (g : Given) (a b k : ℕ) : Type 0 where
   pub k-small : k ≤ 200000
 
 pub rule-ends : {g : Given} {i a b k : ℕ} → Fit g → Rule g i a b k → Ends g a b k
-rule-ends {g} {i} {a} {b} {k} F (path ei ha hb hd ek) = record { a-block = ha; b-block = hb; k-small = omega (arith, F .paths-small a b ha hb (omega arith)) }
+rule-ends {g} {i} {a} {b} {k} F (path ei ha hb hd ek) = record { a-block = ha; b-block = hb; k-small = omega (arith, F .paths-small a b ha hb hd) }
 rule-ends F (wire j hj ei ea eb ek) = record {
   a-block = omega (arith, F .from-block j hj);
   b-block = omega (arith, F .to-block j hj);

@@ -10,7 +10,7 @@ use lib.ListN.{length, getD, set}
 use Rattle.solver.specs.System.{Given, Rule, Fit, Solution, Holds}
 use Rattle.solver.specs.Walk.{Rooted, Hit, Miss}
 use Rattle.solver.specs.State.{State, Stuck, Relaxed, Swept, Ready}
-use Rattle.solver.specs.Laws.Sum.{sum}
+use Rattle.sheet.specs.Laws.Sum.{sum}
 use Rattle.solver.specs.Laws.State.{rule-ends, stored, sum-falls}
 
 -- what the code of a step needs: facts that name no system

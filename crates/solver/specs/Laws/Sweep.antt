@@ -5,13 +5,14 @@ use mathlib.Core.Path.{_≡_, refl, ap, sym, subst, _∙_}
 use mathlib.Core.List.{List}
 use mathlib.Core.Logic.{inl, inr}
 use native.Mathlib.Omega.{arith}
+use native.Mathlib.Decide.{decLt}
 use borrow.Author.Count.{below-more}
-use lib.ListN.{length, getD, set}
+use lib.ListN.{length, getD, set, List·getD-eq-default}
 use Rattle.paths.specs.Laws.Parts.{row-before, square-small}
-use Rattle.solver.specs.System.{Given, Rule, Rule.path, Rule.wire, Rule.ceiling, Fit, Solution, Holds}
+use Rattle.solver.specs.System.{Given, Rule, Rule.path, Rule.wire, Rule.ceiling, Fit, Solution, Holds, Within}
 use Rattle.solver.specs.declared.Turn.{Turn}
 use Rattle.solver.specs.declared.Turn.the-variants as T
-use Rattle.solver.specs.Laws.Step.{sweep-step, sweep-both, sweep-says}
+use Rattle.solver.specs.Laws.Step.{sweep-start, sweep-step, sweep-both, sweep-says}
 use Rattle.solver.specs.State.{State, Stuck, Relaxed, Swept, Turned, Ready, Wires, WiresHold, Paths, PathHolds, RowHolds, PathsHold, AllHold, Lists}
 
 -- ---- wires
@@ -43,7 +44,7 @@ module _ {g : Given} {lower registers delays : List ℕ} {n period : ℕ} (X : P
   pub path-small : (u v : ℕ) → u < n → v < n → period < getD delays (u * n + v) 0 → getD registers (u * n + v) 0 ≤ 150000
   path-small u v hu hv hd =
       rw (X .registers-is, X .n-is)
-      (St .fit .paths-small u v (rw (← X .n-is) hu) (rw (← X .n-is) hv) (rw (← X .delays-is, ← X .n-is) (omega arith)))
+      (St .fit .paths-small u v (rw (← X .n-is) hu) (rw (← X .n-is) hv) (rw (← X .period-is, ← X .delays-is, ← X .n-is) hd))
 
   -- the pair's delay does not exceed the period
   pub path-quick : (u v d : ℕ) → d ≡ getD delays (u * n + v) 0 → d ≤ period → Relaxed g (PathHolds registers delays n period u v) e e par up 1 u v 0
@@ -139,3 +140,25 @@ module _ {g : Given} {lower from to wires ceilings registers delays : List ℕ} 
       subst (Swept g (AllHold g) 4608 e₀ e₂ par₂ up₂) count
       (sweep-says (sweep-both {All = OneEach} (sweep-both {All = Both} A B (λ l f h. (f, h))) C (λ l f h. (f .0, f .1, h)))
       (omega (arith, L .n-is, L .m-is, F .few-blocks, F .few-wires)) all-hold)
+
+  -- where no delay exceeds the period there is no path rule
+  pub round-quick : {e₀ e par up e₁ par₁ up₁ : List ℕ} {x y : ℕ} (longest : ℕ) → Within delays longest → longest ≤ period
+      → Swept g (WiresHold from to wires m) m e₀ e par up x → Swept g (WiresHold to from ceilings m) m e e₁ par₁ up₁ y
+      → Swept g (AllHold g) 4608 e₀ e₁ par₁ up₁ (0 + x + y)
+  round-quick {e₀} {e₁ = e₁} {par₁ = par₁} {up₁ = up₁} {x} {y} longest W le A B =
+      let count : 0 + x + y + 0 ≡ 0 + x + y = omega arith in
+      let quick : PathsHold registers delays n period n e₁ = λ u hu v hv h. absurd (omega (arith, h, W .all (u * n + v))) in
+      subst (Swept g (AllHold g) 4608 e₀ e₁ par₁ up₁) count
+      (round-ends A B (sweep-says (sweep-start (B .state) quick) (omega arith) (λ l h. h)))
+
+-- ---- the longest delay of a table, found entry by entry
+pub longest-more : (delays : List ℕ) (longest i longest′ : ℕ) → ((j : ℕ) → j < i → getD delays j 0 ≤ longest) → longest ≤ longest′ → getD delays i 0 ≤ longest′
+    → (j : ℕ) → j < i + 1 → getD delays j 0 ≤ longest′
+longest-more delays longest i longest′ below le here = below-more (λ (j : ℕ). getD delays j 0 ≤ longest′) i (λ j h. omega (arith, below j h)) here
+
+pub longest-found : (delays : List ℕ) (longest i : ℕ) → length delays ≡ 4096 → 4096 ≤ i → ((j : ℕ) → j < i → getD delays j 0 ≤ longest) → Within delays longest
+longest-found delays longest i long far below = record { all = λ j. go j (decLt j 4096) }
+  where
+    go : (j : ℕ) → Dec (j < 4096) → getD delays j 0 ≤ longest
+    go j (yes h) = below j (omega arith)
+    go j (no h) = omega (arith, List·getD-eq-default {A = ℕ} delays 0 {n = j} (omega arith))

@@ -11,7 +11,7 @@ use lib.Ieee.Fits.{and-l, and-r}
 use Rattle.sheet.specs.Core.{Core}
 use Rattle.paths.specs.Path.{Joins, registersOn, delayOn, endOf}
 use Rattle.paths.specs.Table.{Best}
-use Rattle.paths.specs.Laws.Ahead.{Ahead, fewer, level, ahead-registers, ahead-delay, ahead-refl, ahead-trans, ahead-add, ahead-as}
+use Rattle.tables.specs.Laws.Ahead.{Ahead, fewer, level, ahead-registers, ahead-delay, ahead-refl, ahead-trans, ahead-add, ahead-as}
 use Rattle.loops.specs.Test.{joinsTest}
 use Rattle.loops.specs.Laws.Test.{joins-sound}
 use Rattle.sums.specs.Test.{every, aheadTest, registersTo, delayTo, pathTests, stillTest, rowTests, tableTest}

@@ -16,15 +16,15 @@ use Rattle.sheet.specs.Sheet.{Formed}
 use Rattle.sheet.specs.Laws.Integer.{up, down, parts-le}
 use Rattle.paths.specs.Table.{Entry, best, Period}
 use Rattle.paths.specs.Laws.Path.{joins-start-lt, joins-end-lt}
-use Rattle.paths.specs.Laws.Entry.{entry-unique}
+use Rattle.tables.specs.Laws.Entry.{entry-unique}
 use Rattle.moves.specs.Lags.{movedBy, Fits, Permitted, Meets}
 use Rattle.loops.specs.Link.{sumK}
 use Rattle.loops.specs.Test.{chainTest, validTest}
 use Rattle.loops.specs.Laws.Test.{chain-sound, test-sound}
 use Rattle.loops.specs.Laws.Out.{host-zero, chain-kept, meets-keeps, rules-out}
-use Rattle.periods.specs.Lags.{Largest, Least}
-use Rattle.periods.specs.Laws.Rules.{keeps-meets}
-use Rattle.periods.specs.Laws.Search.{least-next}
+use Rattle.promises.specs.Lags.{Largest, Least}
+use Rattle.promises.specs.Laws.Rules.{keeps-meets}
+use Rattle.theorems.specs.Laws.Search.{least-next}
 use Rattle.sums.specs.Lines.{Chains}
 use Rattle.sums.specs.Test.{every, allBelow, someBelow, rangeTests, fitTests, permittedTests, registersTo, delayTo, tableTest, longTest, shortTest, periodTests, slowTest, meetTests, heldTests, largestTests, beforeTest}
 use Rattle.sums.specs.Laws.Finite.{each, implied, all-below, some-below, le-told, same-told}

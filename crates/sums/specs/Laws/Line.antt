@@ -20,16 +20,17 @@ use Rattle.sheet.specs.Laws.Sheet.{framed-none}
 use Rattle.sheet.specs.Laws.Formed.{formed-core}
 use Rattle.sheet.specs.declared.answer.Answer.{Answer}
 use Rattle.paths.specs.Table.{Period}
-use Rattle.paths.specs.Questions.{SoundSheet, soundRules, roomRules, TableOutcome, tableOutcome, TableDone, tableAfterFrame, TableRight}
+use Rattle.paths.specs.Questions.{SoundSheet, soundRules, roomRules}
+use Rattle.tables.specs.Questions.{TableOutcome, tableOutcome, TableDone, tableAfterFrame, TableRight}
 use Rattle.paths.specs.Laws.Questions.{sheet-sound, sound-checks}
-use Rattle.paths.specs.Laws.Entry.{entry-unique}
+use Rattle.tables.specs.Laws.Entry.{entry-unique}
 use Rattle.moves.specs.Lags.{lagsIn}
 use Rattle.loops.specs.Test.{validTest}
 use Rattle.loops.specs.Laws.Test as LT
 use Rattle.loops.specs.Laws.Question.{loop-rest, loop-yes, loop-no}
-use Rattle.periods.specs.Lags.{Largest, LoopGiven, PlainLoop}
-use Rattle.periods.specs.Questions.{PeriodDone, PeriodRight, LagsOutcome, lagsOutcome, wordsNeeded, LagsDone, LagsRefused, lagsLast, LagsRight, bestLast, BestRight}
-use Rattle.periods.specs.Laws.Asked.{asked-rest, asked-last, best-none, best-done, lags-none, lags-slow, lags-done, plain-none, given-none}
+use Rattle.promises.specs.Lags.{Largest, LoopGiven, PlainLoop}
+use Rattle.promises.specs.Questions.{PeriodDone, PeriodRight, LagsOutcome, lagsOutcome, wordsNeeded, LagsDone, LagsRefused, lagsLast, LagsRight, bestLast, BestRight}
+use Rattle.promises.specs.Laws.Asked.{asked-rest, asked-last, best-none, best-done, lags-none, lags-slow, lags-done, plain-none, given-none}
 use Rattle.sums.specs.Lines.{over, Line, sound, period, entry, best, lagsAt, meet, slow, stuck, loopYes, loopNo, moves, leaves, EntrySaid, LessThan, right}
 use Rattle.sums.specs.Test.{every, lessTests, registersTo, delayTo, entryTests, givenTests, pathsOf, tests, test}
 use Rattle.sums.specs.Laws.Finite.{each, all-below, some-below, le-told}

@@ -14,7 +14,7 @@ use Rattle.loops.specs.Link.{Link, wire, path, upper, lower, ceiling, linkA, su
 use Rattle.loops.specs.Test.{Parsed, links, linksOf, validTest}
 use Rattle.loops.specs.Laws.Test.{links-told, test-sound}
 use Rattle.witness.specs.Laws.Plain.{valid-plain}
-use Rattle.periods.specs.Lags.{LoopGiven, PlainLoop}
+use Rattle.promises.specs.Lags.{LoopGiven, PlainLoop}
 use Rattle.sums.specs.Test.{every, notInTest, noDupTest, noPathTest, onceTest, plainTest, sumTest, givenTests}
 use Rattle.sums.specs.Laws.Finite.{each, same-told}
 

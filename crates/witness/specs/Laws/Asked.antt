@@ -12,7 +12,7 @@ use Rattle.sheet.specs.Laws.Lag.{excess-parts}
 use Rattle.sheet.specs.Laws.Sheet.{upper-fits}
 use Rattle.paths.specs.Table.{Best, Entry, best, none}
 use Rattle.solver.specs.System.{Given, Rule, path, wire, ceiling, Link, rule, upper}
-use Rattle.witness.specs.Stands.{Stands}
+use Rattle.witness.specs.Stands.{Slow, Stands}
 use Rattle.witness.specs.Written.{Asked, for-upper, for-path, for-wire, for-ceiling}
 
 -- the bound k of a link of the solver's is held as z + 32,768
@@ -20,6 +20,16 @@ pub record Bound (s : List ℕ) (g : Given) (i a b k : ℕ) : Type 0 where
   pub z : ℤ
   pub asked : Asked (coreOf s) (g .period) i a b z
   pub z-is : up z + 32768 ≡ k + down z
+
+-- only a path rule has the number 1
+rule-slow : (g : Given) (i a b k : ℕ) → Rule g i a b k → i ≡ 1 → Slow g
+rule-slow g i a b k (path e x y l q) h = record { a = a; b = b; a-block = x; b-block = y; slow = l }
+rule-slow g i a b k (wire j l e x y q) h = absurd (omega arith)
+rule-slow g i a b k (ceiling j l e x y q) h = absurd (omega arith)
+
+pub link-slow : (g : Given) (i a b k : ℕ) → Link g i a b k → i ≡ 1 → Slow g
+link-slow g i a b k (rule r) h = rule-slow g i a b k r h
+link-slow g i a b k (upper e x q) h = absurd (omega arith)
 
 module _ (s : List ℕ) (g : Given) (h : Stands s g) where
   -- an entry with a delay above a period is a path's
@@ -31,7 +41,7 @@ module _ (s : List ℕ) (g : Given) (h : Stands s g) where
   rule-asked i a b k (path e x y l q) =
       let W = getD (g .registers) (a * g .n + b) 0 in
       let D = getD (g .delays) (a * g .n + b) 0 in
-      let t : Entry (shapeOf s) (registersIn s) a b W D = rw (h .n-is) (h .table a b (omega (arith, h .n-is)) (omega (arith, h .n-is))) in
+      let t : Entry (shapeOf s) (registersIn s) a b W D = rw (h .n-is) (h .table (record { a = a; b = b; a-block = x; b-block = y; slow = l }) a b (omega (arith, h .n-is)) (omega (arith, h .n-is))) in
       record { z = pos W -ℤ pos 1; asked = for-path e W D (slow-best a b W D (g .period) t l) l refl; z-is = omega (arith, minus (pos W) (pos 1)) }
   rule-asked i a b k (wire j l e x y q) =
       let l′ : j < wiresIn s = omega (arith, h .m-is) in

@@ -13,9 +13,9 @@ use Rattle.sheet.specs.Laws.Formed.{formed-core}
 use Rattle.paths.specs.Path.{Joins}
 use Rattle.paths.specs.Table.{best}
 use Rattle.paths.specs.Laws.Path.{joins-start-lt, joins-end-lt, joins-end}
-use Rattle.paths.specs.Laws.Entry.{entry-unique}
+use Rattle.tables.specs.Laws.Entry.{entry-unique}
 use Rattle.loops.specs.Link.{wire, path, upper, ceiling}
-use Rattle.witness.specs.Trace.{Tabled, Traced}
+use Rattle.witness.specs.Trace.{Tabled, Known, Traced}
 use Rattle.witness.specs.Written.{Asked, for-upper, for-path, for-wire, for-ceiling, PathWritten, LinkWritten}
 use Rattle.witness.specs.Laws.Sets.{sets-after}
 use Rattle.witness.specs.Laws.Trace.{entry-of}
@@ -94,13 +94,13 @@ path-made s registers delays n a b w w₂ w₃ w₄ at at₂ at₃ r first wires
       next = omega arith;
     }
 
-pub sheet-formed : (s : List ℕ) (n : ℕ) (registers delays : List ℕ) → Tabled s n registers delays → Formed (coreOf s)
-sheet-formed s n registers delays t = formed-core s (t .sound .formed)
+pub sheet-formed : (s : List ℕ) (n : ℕ) (registers delays : List ℕ) (i : ℕ) → Known s n registers delays i → Formed (coreOf s)
+sheet-formed s n registers delays i t = formed-core s (t .sound .formed)
 
 -- the path that the table's row gives
 module _ (s : List ℕ) (n : ℕ) (registers delays : List ℕ) (t : Tabled s n registers delays) (p i a b : ℕ) (k : ℤ) where
   formed : Formed (coreOf s)
-  formed = sheet-formed s n registers delays t
+  formed = formed-core s (t .sound .formed)
 
   -- the entry's numbers are the best path's
   record Asks (W D : ℕ) : Type 0 where

@@ -13,7 +13,7 @@ use Rattle.sheet.specs.Reads.{WireIs}
 use Rattle.paths.specs.Path.{Joins, registersOn, delayOn}
 use Rattle.paths.specs.Table.{LoopAt, Best, Entry, best, none}
 use Rattle.paths.specs.Laws.Path.{passes-all, joins-append, joins-start-lt, joins-end-lt, between-passes, registers-append}
-use Rattle.paths.specs.Laws.Entry.{entry-unique, fewest-short, backward}
+use Rattle.tables.specs.Laws.Entry.{entry-unique, fewest-short, backward}
 use Rattle.paths.specs.Laws.Parts.{row-before, square-small}
 use Rattle.witness.specs.Trace.{Tabled, Based, Completed, NoneBefore, Bare, Apart, Traced, Suffix, Tracing}
 

@@ -8,12 +8,12 @@ use native.Mathlib.Nat.{mul-le-mul-right}
 use lib.IntN.{ℤ}
 use lib.ListN.{length, getD}
 use Rattle.sheet.specs.Core.{coreOf}
-use Rattle.solver.specs.System.{Given}
+use Rattle.solver.specs.System.{Given, rule}
 use Rattle.solver.specs.Walk.{Rooted}
-use Rattle.witness.specs.Trace.{Tabled}
+use Rattle.witness.specs.Trace.{Known}
 use Rattle.witness.specs.Written.{Asked, LinkWritten, LoopWritten}
 use Rattle.witness.specs.Walked.{Halted, Ends, far, Begun, Underway}
-use Rattle.witness.specs.Laws.Walked.{few-blocks, halted-table, rule-bound, a-in, b-in, rooted, held-bound, begins, begins-room, walked-start, walked-in, walked-room, walked-less, walked-next, walked-ends}
+use Rattle.witness.specs.Laws.Walked.{few-blocks, halted-knows, rule-bound, a-in, b-in, rooted, held-bound, begins, begins-room, walked-start, walked-in, walked-room, walked-less, walked-next, walked-ends}
 
 -- ---- before the walk, for whatever the solver stopped at
 module _ (s : List ℕ) (n : ℕ) (registers delays par ups : List ℕ) (i a b : ℕ) (g : Given) (e : List ℕ) (h : Halted s n registers delays par ups i a b g e) where
@@ -26,6 +26,9 @@ module _ (s : List ℕ) (n : ℕ) (registers delays par ups : List ℕ) (i a b :
 
   pub halted-a : a < 64
   halted-a = omega (arith, a-in s n registers delays par ups i a b g e h, few-blocks s n registers delays par ups i a b g e h)
+
+  pub halted-known : Known s n registers delays i
+  halted-known = halted-knows s n registers delays par ups i a b g e h i a b (h .stuck .k) (rule (h .stuck .rule))
 
   pub halted-asked : (q : ℕ) × (z : ℤ) × Asked (coreOf s) q i a b z
   halted-asked = let B = rule-bound s n registers delays par ups i a b g e h in (g .period, B .z, B .asked)
@@ -55,9 +58,6 @@ module _ (s : List ℕ) (n : ℕ) (registers delays par ups : List ℕ) (i a b :
 
 -- ---- a turn of the walk, for whatever the loop is written for
 module _ (s : List ℕ) (n : ℕ) (registers delays par ups : List ℕ) (start p : ℕ) (w w′ : List ℕ) (at v : ℕ) (U : Underway s n registers delays par ups start p w w′ at v) where
-  pub underway-table : Tabled s n registers delays
-  underway-table = halted-table s n registers delays par ups (U .i) (U .a) (U .b) (U .g) (U .e) (U .halted)
-
   pub underway-in : v < 64
   underway-in =
       omega (
@@ -68,6 +68,12 @@ module _ (s : List ℕ) (n : ℕ) (registers delays par ups : List ℕ) (start p
 
   here : v < n
   here = walked-in s n registers delays par ups (U .i) (U .a) (U .b) (U .g) (U .e) (U .halted) start (U .ends) w w′ at v (U .walked)
+
+  pub underway-known : (i : ℕ) → i ≡ getD ups v 0 → Known s n registers delays i
+  underway-known i x =
+      let H = U .halted in
+      let k = H .state .held v (rw (H .n-is) at here) in
+      rw x (halted-knows s n registers delays par ups (U .i) (U .a) (U .b) (U .g) (U .e) H (getD ups v 0) v (getD par v 0) (k .0) (k .1))
 
   pub underway-asked : (i b : ℕ) → i ≡ getD ups v 0 → b ≡ getD par v 0 → (q : ℕ) × (z : ℤ) × Asked (coreOf s) q i v b z
   underway-asked i b x y =

@@ -20,14 +20,16 @@ use Rattle.paths.specs.Laws.Pigeons.{NotIn}
 use Rattle.loops.specs.Link.{Link, lower, allWords, linkA, sumK, ValidLoop}
 use Rattle.loops.specs.Laws.Chain.{parts-negative}
 use Rattle.solver.specs.System.{Given}
+use Rattle.solver.specs.System as S
 use Rattle.solver.specs.Walk.{Depth, Rooted, iter, Hit}
 use Rattle.solver.specs.Laws.Walk.{iter-in, short, distinct, walk-start, walk-step}
-use Rattle.witness.specs.Trace.{Tabled}
+use Rattle.witness.specs.Stands.{Slow}
+use Rattle.witness.specs.Trace.{Tabled, Known}
 use Rattle.witness.specs.Written.{Asked, for-upper, for-path, for-wire, for-ceiling, LinkWritten, LoopWritten}
 use Rattle.witness.specs.Walked.{Halted, Ends, OnWalk, far, NoneSlow, Linked, Walked, Begun}
 use Rattle.witness.specs.Laws.Sets.{sets-front, sets-kept}
 use Rattle.witness.specs.Laws.Link.{asked-a, asked-b}
-use Rattle.witness.specs.Laws.Asked.{Bound, rule-asked, link-asked}
+use Rattle.witness.specs.Laws.Asked.{Bound, link-slow, rule-asked, link-asked}
 use Rattle.witness.specs.Laws.Linked.{not-in-snoc, linked-none, linked-next, linked-room, linked-few}
 
 -- ---- how far the host is
@@ -82,14 +84,17 @@ module _ (s : List ℕ) (n : ℕ) (registers delays par ups : List ℕ) (i a b :
   pub few-blocks : n ≤ 64
   few-blocks = omega (arith, blocks, h .stands .sound .formed .framed .few-blocks)
 
-  pub halted-table : Tabled s n registers delays
-  halted-table = record {
+  halted-table : Slow g → Tabled s n registers delays
+  halted-table slow = record {
     sound = h .stands .sound;
     n-is = blocks;
     registers-long = ap length (sym (h .registers-are)) ∙ h .state .fit .registers-long;
     delays-long = ap length (sym (h .delays-are)) ∙ h .state .fit .delays-long;
-    table = rw (h .registers-are, h .delays-are) at (h .stands .table);
+    table = rw (h .registers-are, h .delays-are) at (h .stands .table slow);
   }
+
+  pub halted-knows : (j x y k : ℕ) → S.Link g j x y k → Known s n registers delays j
+  halted-knows j x y k l = record { sound = h .stands .sound; tabled = λ q. halted-table (link-slow g j x y k l q) }
 
   formed : Formed (coreOf s)
   formed = formed-core s (h .stands .sound .formed)

@@ -5,8 +5,8 @@ use Prim.Native.Nat.{ℕ, _+_, _≤_}
 use Rattle.sheet.specs.Laws.Rules.{refused, passed}
 use Rattle.sheet.specs.Laws.Sheet.{framed-none}
 use Rattle.paths.specs.Laws.Questions.{sound-sheet}
-use Rattle.periods.specs.Solving.{lastOf}
-use Rattle.periods.specs.Laws.Asked.{lags-short, words-short, asked-unsound, asked-last}
+use Rattle.refusals.specs.Solving.{lastOf}
+use Rattle.promises.specs.Laws.Asked.{lags-short, words-short, asked-unsound, asked-last}
 use borrow.Author.Needs.{needs}
 use Rattle.periods.proofs.lags.asked_framed.Statement.{statement}
 use Rattle.periods.proofs.lags.asked_framed.Tie as tie

@@ -5,7 +5,7 @@ use mathlib.Core.List.{List}
 use Prim.Native.Nat.{ℕ}
 use lib.ListN.{length}
 use Rattle.witness.specs.Walked.{Underway, far}
-use Rattle.witness.specs.Laws.Underway.{underway-table, underway-in, underway-asked, underway-room, underway-less, underway-next, underway-ends}
+use Rattle.witness.specs.Laws.Underway.{underway-known, underway-in, underway-asked, underway-room, underway-less, underway-next, underway-ends}
 use Rattle.witness.proofs.walk.write_walk.Statement.{statement}
 use Rattle.witness.proofs.walk.write_walk.Tie as tie
 
@@ -28,7 +28,7 @@ at-block-requires-2 c κs = let U = c .before .before .loop .inv .1 (c .before .
 
 write-link-requires : tie.Need-write-link-requires Inv-loop μ-loop
 write-link-requires c κs = let U = c .before .before .before .before .loop .inv .1 (c .before .before .before .before .before .before .before .pre .1 .0) (c .before .before .before .before .before .before .before .pre .1 .1) (c .before .before .before .before .before .before .before .pre .1 .2) in
-    ((underway-table _ _ _ _ _ _ _ _ _ _ _ _ U, omega (arith, c .before .before .before .before .loop .inv .0, c .before .before .before .before .before .before .before .pre .0 .2, underway-room _ _ _ _ _ _ _ _ _ _ _ _ U (c .before .before .before .loop-test .taken))), underway-asked _ _ _ _ _ _ _ _ _ _ _ _ U _ _ (c .before .at-block2 .ensures) (c .before .before .at-block .ensures))
+    ((underway-known _ _ _ _ _ _ _ _ _ _ _ _ U _ (c .before .at-block2 .ensures), omega (arith, c .before .before .before .before .loop .inv .0, c .before .before .before .before .before .before .before .pre .0 .2, underway-room _ _ _ _ _ _ _ _ _ _ _ _ U (c .before .before .before .loop-test .taken))), underway-asked _ _ _ _ _ _ _ _ _ _ _ _ U _ _ (c .before .at-block2 .ensures) (c .before .before .at-block .ensures))
 
 loop-less : tie.Need-loop-less Inv-loop μ-loop
 loop-less c = let U = c .before .before .before .before .before .before .before .loop .inv .1 (c .before .before .before .before .before .before .before .before .before .before .pre .1 .0) (c .before .before .before .before .before .before .before .before .before .before .pre .1 .1) (c .before .before .before .before .before .before .before .before .before .before .pre .1 .2) in

@@ -1,0 +1,4 @@
+-- Laws about the definitions of specs/, for proofs and for the crates above.
+pub mod Slow
+pub mod Meets
+pub mod Loaded

@@ -1,0 +1,3 @@
+pub mod Keys
+pub mod Filling
+pub mod Laws

@@ -1,0 +1,4 @@
+pub mod Rules
+pub mod Lags
+pub mod Questions
+pub mod Laws

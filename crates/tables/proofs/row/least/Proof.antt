@@ -1,0 +1,14 @@
+-- The test settles which is the lesser.
+use native.Mathlib.Omega.{arith}
+use borrow.Author.Needs.{needs}
+use Rattle.tables.proofs.row.least.Statement.{statement}
+use Rattle.tables.proofs.row.least.Tie as tie
+
+returns : tie.Need-returns
+returns c = omega arith
+
+returns-2 : tie.Need-returns-2
+returns-2 c = omega arith
+
+pub least-spec : {M : Type 1} → statement M
+least-spec = tie.close (tie.spec returns returns-2)

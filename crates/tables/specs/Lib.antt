@@ -1,0 +1,4 @@
+pub mod Row
+pub mod Keys
+pub mod Questions
+pub mod Laws
