@@ -90,7 +90,7 @@ fn say_processor() {
     let model = model.lines().find_map(|line| line.strip_prefix("model name")).map_or("", |rest| rest.trim_start_matches([' ', '\t', ':']));
     println!("processor: {} {model}", env::consts::ARCH);
     if env::consts::ARCH != "x86_64" {
-        println!("The library is x86-64 code and runs under an emulator here, the fast version does not: the ratios mean little.");
+        println!("The library is delivered as x86-64 code; timed here is its compiled module, built for this processor.");
     }
 }
 

@@ -1,7 +1,7 @@
 //! Check, period and best period of one sheet, as fast as safe Rust on one thread gave them: what the library's speed is held to.
 //!
 //! A register-free order of the blocks serves the loop test and the period. The path table is kept by end block, so that
-//! one wire is tried for all start blocks at once. Periods are halved between bounds, each test starting from the
+//! one wire is tried for all start blocks at once. Periods are tried between bounds, each test starting from the
 //! largest lags of the last period that was met.
 
 use crate::questions::{loop_room, Answer, DONE, NONE_PERMITTED};
@@ -482,6 +482,11 @@ fn moved_period(rules: &Rules, lags: &Row<i16>, slowest: u32) -> u32 {
     longest.into_iter().max().unwrap_or(slowest)
 }
 
+/// How far below a period that is met the next one is tried: half way, and next to it after two tests that failed.
+fn back(gap: u32, failed: u32) -> u32 {
+    if failed < 2 { gap / 2 } else { 0 }
+}
+
 /// The least period that permitted lags meet, and the largest such lags.
 fn best_of(core: &Core, order: &Order) -> Result<(u32, Row<i16>), Answer> {
     let rules = rules(core, order, &table(core, order));
@@ -492,15 +497,20 @@ fn best_of(core: &Core, order: &Order) -> Result<(u32, Row<i16>), Answer> {
     let slowest = core.delay.iter().copied().max().unwrap_or(0);
     let mut met = moved_period(&rules, &lags, slowest);
     let mut least = slowest;
+    let mut failed = 0;
     while least < met {
-        let c = least + (met - 1 - least) / 2;
+        let c = met - 1 - back(met - 1 - least, failed);
         let mut tried = lags;
         match solve(core, &rules, c, &bounds_at(&rules, c), &mut tried) {
             Ok(()) => {
                 lags = tried;
                 met = moved_period(&rules, &lags, slowest);
+                failed = 0;
             }
-            Err(next) => least = next.max(c + 1),
+            Err(next) => {
+                least = next.max(c + 1);
+                failed += 1;
+            }
         }
     }
     Ok((met, lags))

@@ -1,6 +1,5 @@
 -- A sheet's rules as one table of keys: its path table, with the wires' ceilings folded in, and the blocks' limits.
 use mathlib.Core.Path.{_≡_}
-use mathlib.Core.Logic.{_⊎_}
 use mathlib.Core.Bool.{cond}
 use mathlib.Core.List.{List}
 use Prim.Native.Nat.{ℕ, _+_, _-_, _*_, _≤_, _<_}

@@ -1,6 +1,6 @@
 // A sheet's rules as one table of keys: its path table for all start blocks at once, with the wires' ceilings folded in.
 ghost use mathlib.Core.Path.{_≡_};
-ghost use lib.ListN.{length, replicate};
+ghost use lib.ListN.{replicate};
 ghost use Rattle.sheet.specs.Core.{blocksIn, wiresIn};
 ghost use Rattle.paths.specs.Questions.{SoundSheet};
 ghost use Rattle.bounds.specs.Ruled.{Ruled};

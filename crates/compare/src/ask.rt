@@ -3,6 +3,8 @@ ghost use Prim.Native.Nat.{_≤_};
 ghost use lib.ListN.{length};
 use crate::solve::best;
 use crate::solve::lags_at;
+use records::given::at_most;
+use records::given::blocks;
 use records::given::lags;
 use records::given::words;
 use records::lent::kept;
@@ -11,8 +13,8 @@ use records::lent::marked;
 use records::lent::marked_bytes;
 use records::out::bytes;
 use records::out::head;
+use records::out::kept_line;
 use records::out::list;
-use records::out::text;
 
 fn check(out: &mut [u8; 4096], used: &mut usize, sheet: &[u8]) {
     let answer = paths::check(sheet);
@@ -24,36 +26,12 @@ fn period(out: &mut [u8; 4096], used: &mut usize, sheet: &[u8]) {
     head(out, used, 2, answer);
 }
 
-// How many entries of a list of `length` a table takes: n², and never more than there are.
-fn entries(sheet: &[u8], length: usize) -> usize
-    ensures { λ r. ⌜ r ≤ length ⌝ }
-{
-    if sheet.len() < 2 {
-        return 0;
-    }
-    let n = sheet::bytes::u16_at(sheet, 0) as usize;
-    if n * n < length {
-        return n * n;
-    }
-    length
-}
-
 // Whether both lists, from r and d on, are what they were before the call.
-fn kept_line(
-    out: &mut [u8; 4096],
-    used: &mut usize,
-    registers: &[u32; 4300],
-    delays: &[u32; 4300],
-    r: usize,
-    d: usize,
-) {
+fn both_kept(registers: &[u32; 4300], delays: &[u32; 4300], r: usize, d: usize) -> bool {
     if kept(registers, r) {
-        if kept(delays, d) {
-            text(out, used, b"kept\n");
-            return;
-        }
+        return kept(delays, d);
     }
-    text(out, used, b"changed\n");
+    false
 }
 
 // The lines after the head: a table where there is one, and whether the rest was kept.
@@ -69,12 +47,12 @@ fn table_lines(
     requires { ⌜ (r ≤ 4300) × (d ≤ 4300) ⌝ }
 {
     if refused {
-        kept_line(out, used, registers, delays, 0, 0);
+        kept_line(out, used, both_kept(registers, delays, 0, 0));
         return;
     }
     list(out, used, b"registers", registers, r);
     list(out, used, b"delays", delays, d);
-    kept_line(out, used, registers, delays, r, d);
+    kept_line(out, used, both_kept(registers, delays, r, d));
 }
 
 fn table(out: &mut [u8; 4096], used: &mut usize, sheet: &[u8], a: usize, b: usize)
@@ -85,8 +63,10 @@ fn table(out: &mut [u8; 4096], used: &mut usize, sheet: &[u8], a: usize, b: usiz
     let answer = tables::path_table(sheet, &mut registers[..a], &mut delays[..b]);
     let refused = answer.number != 0;
     head(out, used, 3, answer);
-    let r = entries(sheet, a);
-    let d = entries(sheet, b);
+    let n = blocks(sheet);
+    let all = n * n;
+    let r = at_most(all, a);
+    let d = at_most(all, b);
     table_lines(out, used, &registers, &delays, r, d, refused);
 }
 
@@ -105,23 +85,10 @@ fn moved_lines(
         bytes(out, used, b"moved", moved, count);
         first = count;
     }
-    if kept_bytes(moved, first) {
-        text(out, used, b"kept\n");
-        return;
-    }
-    text(out, used, b"changed\n");
+    kept_line(out, used, kept_bytes(moved, first));
 }
 
-// How many bytes of a list of `length` a moved sheet takes: as many as the sheet, and never more than there are.
-fn room(sheet: &[u8], length: usize) -> usize
-    ensures { λ r. ⌜ r ≤ length ⌝ }
-{
-    if sheet.len() < length {
-        return sheet.len();
-    }
-    length
-}
-
+// A moved sheet takes as many bytes as the sheet.
 fn move_by(out: &mut [u8; 4096], used: &mut usize, sheet: &[u8], more: &[u8], a: usize, b: usize)
     requires { ⌜ (a ≤ 4300) × (b ≤ 4300) × (length (now more) ≤ 8600) ⌝ }
 {
@@ -130,7 +97,7 @@ fn move_by(out: &mut [u8; 4096], used: &mut usize, sheet: &[u8], more: &[u8], a:
     let answer = moves::move_by(sheet, &lags[..a], &mut moved[..b]);
     let refused = answer.number != 0;
     head(out, used, 4, answer);
-    moved_lines(out, used, &moved, room(sheet, b), refused);
+    moved_lines(out, used, &moved, at_most(sheet.len(), b), refused);
 }
 
 fn check_loop(out: &mut [u8; 4096], used: &mut usize, sheet: &[u8], more: &[u8], a: usize, c: u32)

@@ -1,10 +1,13 @@
 // The two lag questions: the lines with their answers, and whether the loop that comes with 10 or 11 proves it.
 ghost use Prim.Native.Nat.{_≤_};
+use records::given::at_most;
+use records::given::blocks;
 use records::lent::kept_lags;
 use records::lent::kept_words;
 use records::lent::marked_lags;
 use records::lent::marked_words;
 use records::out::head;
+use records::out::kept_line;
 use records::out::lag_list;
 use records::out::short_head;
 use records::out::text;
@@ -31,21 +34,11 @@ fn proved(sheet: &[u8], number: u32, c: u32, words: &[u16], count: usize) -> boo
 }
 
 // Whether the lags from `given` on and the words from `count` on are what they were before the call.
-fn kept_line(
-    out: &mut [u8; 4096],
-    used: &mut usize,
-    lags: &[i16; 4300],
-    words: &[u16; 4300],
-    given: usize,
-    count: usize,
-) {
+fn both_kept(lags: &[i16; 4300], words: &[u16; 4300], given: usize, count: usize) -> bool {
     if kept_lags(lags, given) {
-        if kept_words(words, count) {
-            text(out, used, b"kept\n");
-            return;
-        }
+        return kept_words(words, count);
     }
-    text(out, used, b"changed\n");
+    false
 }
 
 fn loop_line(
@@ -64,20 +57,6 @@ fn loop_line(
     text(out, used, b"loop no\n");
 }
 
-// How many entries of a list of `length` the lags take: n, and never more than there are.
-fn lag_count(sheet: &[u8], length: usize) -> usize
-    ensures { λ r. ⌜ r ≤ length ⌝ }
-{
-    if sheet.len() < 2 {
-        return 0;
-    }
-    let n = sheet::bytes::u16_at(sheet, 0) as usize;
-    if n < length {
-        return n;
-    }
-    length
-}
-
 // The lines of an answer with a loop: its word count is not written, since which loop is free.
 fn loop_lines(
     out: &mut [u8; 4096],
@@ -93,7 +72,7 @@ fn loop_lines(
     let count = answer.value as usize;
     short_head(out, used, code, answer);
     loop_line(out, used, sheet, number, c, words, count);
-    kept_line(out, used, lags, words, 0, count);
+    kept_line(out, used, both_kept(lags, words, 0, count));
 }
 
 // The lines of any other answer: with 0 its n lags.
@@ -111,11 +90,11 @@ fn lag_lines(
     let refused = answer.number != 0;
     head(out, used, code, answer);
     if refused {
-        kept_line(out, used, lags, words, 0, 0);
+        kept_line(out, used, both_kept(lags, words, 0, 0));
         return;
     }
     lag_list(out, used, b"lags", lags, n);
-    kept_line(out, used, lags, words, n, 0);
+    kept_line(out, used, both_kept(lags, words, n, 0));
 }
 
 fn has_loop(number: u32) -> bool {
@@ -151,7 +130,7 @@ pub fn lags_at(out: &mut [u8; 4096], used: &mut usize, sheet: &[u8], a: usize, b
     let mut lags = marked_lags();
     let mut words = marked_words();
     let answer = periods::lags_at(sheet, c, &mut lags[..a], &mut words[..b]);
-    let n = lag_count(sheet, a);
+    let n = at_most(blocks(sheet), a);
     answered(out, used, 5, sheet, c, answer, &lags, &words, n);
 }
 
@@ -161,6 +140,6 @@ pub fn best(out: &mut [u8; 4096], used: &mut usize, sheet: &[u8], a: usize, b: u
     let mut lags = marked_lags();
     let mut words = marked_words();
     let answer = periods::best(sheet, &mut lags[..a], &mut words[..b]);
-    let n = lag_count(sheet, a);
+    let n = at_most(blocks(sheet), a);
     answered(out, used, 6, sheet, 0, answer, &lags, &words, n);
 }

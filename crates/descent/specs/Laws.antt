@@ -2,6 +2,6 @@
 pub mod System
 pub mod Column
 pub mod Push
-pub mod Until
+pub mod Chain
 pub mod Round
 pub mod Reach

@@ -7,8 +7,8 @@ use Rattle.descent.specs.System.{key, Floor}
 use Rattle.descent.specs.State.{AtRest}
 
 -- at rest at r, which is the least period that has lags, and no longer than c
-pub record LeastRest (keys lower upper : List ℕ) (c r : ℕ) (e par : List ℕ) : Type 0 where
-  pub rest : AtRest keys lower upper r e par
+pub record LeastRest (keys lower upper : List ℕ) (c r : ℕ) (e : List ℕ) : Type 0 where
+  pub rest : AtRest keys lower upper r e
   pub floor : Floor keys lower upper r
   pub within : r ≤ c
 

@@ -1,4 +1,5 @@
 pub mod System
 pub mod State
+pub mod Chain
 pub mod Least
 pub mod Laws

@@ -1,7 +1,6 @@
 // The least period: halving between a floor and the period that the lags at rest reach.
 ghost use mathlib.Core.Path.{_≡_};
-ghost use mathlib.Core.List.{List};
-ghost use Prim.Native.Nat.{ℕ, _<_};
+ghost use Prim.Native.Nat.{ℕ, _<_, _≤_};
 ghost use lib.ListN.{length};
 ghost use Rattle.descent.specs.State.{AtRest};
 ghost use Rattle.descent.specs.Least.{LeastRest, Lags, Resting, Reach, Scaled, Near, Nearing};
@@ -53,25 +52,45 @@ fn reach(keys: &[u32; 4096], e: &[u32; 64]) -> u32
     1048575 - least
 }
 
+// How far below the period reached the next trial is: half way to the floor, and next to it after two that failed.
+fn back(gap: u32, failed: u32) -> u32
+    ensures { λ r. ⌜ r ≤ gap ⌝ }
+{
+    if failed < 2 {
+        return gap / 2;
+    }
+    0
+}
+
 // From lags at rest to the least period that has lags, and the largest lags at it.
-pub fn least(keys: &[u32; 4096], lower: &[u32; 64], e: &mut [u32; 64], par: &mut [u32; 64]) -> u32
-    requires { ⌜ ((upper : List ℕ) × (c : ℕ) × AtRest (now keys) (now lower) upper c (now e) (now par) × (c < 1048576)) ⌝ }
-    ensures { λ r. ⌜ ((upper : List ℕ) (c : ℕ) → AtRest (now (keys .entry)) (now (lower .entry)) upper c (now (e .entry)) (now (par .entry)) → c < 1048576 → LeastRest (now (keys .entry)) (now (lower .entry)) upper c r (now (e .exit)) (now (par .exit))) ⌝ }
+pub fn least(
+    keys: &[u32; 4096],
+    lower: &[u32; 64],
+    upper: &[u32; 64],
+    e: &mut [u32; 64],
+    links: &mut [u32; 64],
+) -> u32
+    requires { ⌜ ((c : ℕ) × AtRest (now keys) (now lower) (now upper) c (now e) × (c < 1048576) × (length (now links) ≡ 64)) ⌝ }
+    ensures { λ r. ⌜ ((c : ℕ) → AtRest (now (keys .entry)) (now (lower .entry)) (now (upper .entry)) c (now (e .entry)) → c < 1048576 → LeastRest (now (keys .entry)) (now (lower .entry)) (now (upper .entry)) c r (now (e .exit))) ⌝ }
 {
     let mut high = reach(keys, e);
     let mut low: u32 = 0;
+    let mut failed: u32 = 0;
     while low < high {
-        let middle = low + (high - 1 - low) / 2;
+        let gap = high - 1 - low;
+        let c = high - 1 - back(gap, failed);
         let mut lags = *e;
-        let mut next = *par;
-        let r = settle(keys, middle, lower, &mut lags, &mut next);
+        let mut next = *links;
+        let r = settle(keys, c, lower, upper, &mut lags, &mut next);
         if r == 0 {
             *e = lags;
-            *par = next;
+            *links = next;
             high = reach(keys, e);
+            failed = 0;
             continue;
         }
         low = r;
+        failed += 1;
     }
     high
 }

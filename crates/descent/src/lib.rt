@@ -2,4 +2,4 @@
 pub mod least; // the least period
 pub mod settle; // the largest lags at a period
 mod column; // the rules of all blocks with one block
-mod until; // how long a contradiction lasts
+mod chain; // contradictions, and how long they last

@@ -4,7 +4,6 @@ ghost use Prim.Native.Nat.{ℕ, _+_, _*_, _-_, _<_};
 ghost use lib.ListN.{length};
 ghost use Rattle.paths.specs.Lists.{held, listShape, Wires, Delays};
 ghost use Rattle.keys.specs.Keys.{Slow, Keyed, Folded, Turns};
-ghost use Rattle.keys.specs.Filling.{Lesser};
 use crate::lanes::blank;
 use crate::order::add_up;
 use crate::order::complete;
@@ -13,6 +12,7 @@ use crate::order::heights;
 use crate::order::place;
 use crate::order::plain;
 use crate::sweep::sweep;
+use sheet::number::lesser;
 
 mod lanes; // the 64 start blocks of one end block
 mod order; // the wires in an order, by counting
@@ -53,16 +53,6 @@ pub fn fill_keys(
     {
         back = !back;
     }
-}
-
-// The lesser of two keys.
-fn lesser(x: u32, y: u32) -> u32
-    ensures { λ r. ⌜ Lesser x y r ⌝ }
-{
-    if x < y {
-        return x;
-    }
-    y
 }
 
 // The ceiling of each wire, folded into the table: the rule lag(t) - lag(f) <= 2000 - w of a wire from f to t with w registers.

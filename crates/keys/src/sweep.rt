@@ -1,7 +1,7 @@
 // One sweep over the wires: a wire is tried where the row of its start changed since it was last tried.
 // Rows have versions, and each wire the version of its start's row that it has seen.
 ghost use mathlib.Core.Path.{_≡_};
-ghost use Prim.Native.Nat.{ℕ, _*_, _<_, _≤_};
+ghost use Prim.Native.Nat.{ℕ, _*_, _<_};
 ghost use lib.ListN.{length};
 ghost use Rattle.paths.specs.Lists.{held, listShape, Wires, Delays};
 ghost use Rattle.keys.specs.Keys.{Slow, Turns};

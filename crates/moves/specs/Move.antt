@@ -1,7 +1,7 @@
 -- The moved sheet, byte for byte, and the question move.
 use mathlib.Core.Path.{_≡_}
 use mathlib.Core.List.{List, [], _∷_, _++_}
-use Prim.Native.Nat.{ℕ, _+_, _*_, _≤_, _<_}
+use Prim.Native.Nat.{ℕ, _+_, _<_}
 use lib.IntN.{ℤ, _-ℤ_}
 use lib.ListN.{length, getD, take}
 use Rattle.sheet.specs.Bytes.{Bytes}
@@ -10,7 +10,7 @@ use Rattle.sheet.specs.Rules.{Rule, First, answer, firstPlace, stage}
 use Rattle.sheet.specs.Sheet.{frameRules}
 use Rattle.sheet.specs.declared.answer.Answer.{Answer}
 use Rattle.paths.specs.Questions.{soundRules, roomRules, KeptFrom}
-use Rattle.moves.specs.Lags.{lagsIn, movedBy, InRange, Fits, MovedTo}
+use Rattle.moves.specs.Lags.{lagsIn, InRange, Fits, MovedTo}
 
 -- the k bytes from a place on are the same in both
 abbrev pub Copied : List ℕ → List ℕ → ℕ → ℕ → Type 0

@@ -1,6 +1,6 @@
 // Whether lags are permitted: refusals 8 and 9.
 ghost use mathlib.Core.Path.{_≡_};
-ghost use Prim.Native.Nat.{ℕ, _<_, _≤_};
+ghost use Prim.Native.Nat.{_<_, _≤_};
 ghost use lib.IntN.{pos};
 ghost use lib.ListN.{length, getD};
 ghost use Rattle.sheet.specs.Core.{coreOf, blocksIn, wiresIn};

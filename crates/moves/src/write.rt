@@ -1,6 +1,6 @@
 // The moved sheet is written: the sheet is copied, then each field that changes is put anew.
 ghost use mathlib.Core.Path.{_≡_};
-ghost use Prim.Native.Nat.{ℕ, _+_, _*_, _<_, _≤_};
+ghost use Prim.Native.Nat.{_+_, _*_, _<_, _≤_};
 ghost use lib.ListN.{length};
 ghost use Rattle.sheet.specs.Core.{coreOf, blocksIn, wiresIn};
 ghost use Rattle.sheet.specs.Sheet.{FormedSheet};

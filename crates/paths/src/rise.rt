@@ -1,11 +1,12 @@
 // Heights over the register-free wires: the longest register-free path into each block, found in sweeps over those wires
 // alone. Where a sweep changes nothing, and each block has a delay, no loop is register-free.
 ghost use mathlib.Core.Path.{_≡_};
-ghost use Prim.Native.Nat.{ℕ, _+_, _*_, _<_, _≤_, max};
+ghost use Prim.Native.Nat.{ℕ, _+_, _*_, _<_, _≤_};
 ghost use lib.ListN.{length, getD};
 ghost use Rattle.paths.specs.Lists.{held, listShape, Wires, Delays};
 ghost use Rattle.paths.specs.Table.{LoopAt, Period};
 ghost use Rattle.paths.specs.Rise.{Listed, Lifted, Highest, Heights, Swept, Risen};
+use sheet::number::larger;
 
 // The numbers of the wires without a register, in order, and how many they are.
 // Each number is stored, and counted only where it belongs: a test around the store takes longer than the store.
@@ -36,15 +37,6 @@ fn turned(m: usize, k: usize, registers: &[u32; 256], list: &[usize; 256], back:
         back[i] = list[k - 1 - i];
         i += 1;
     }
-}
-
-fn larger(x: u32, y: u32) -> u32
-    ensures { λ r. ⌜ r ≡ max x y ⌝ }
-{
-    if x < y {
-        return y;
-    }
-    x
 }
 
 // Tries a wire from f to t, where block t has delay d: true where t rose. Its height is stored in either case.

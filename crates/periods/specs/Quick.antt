@@ -1,10 +1,10 @@
 -- The quick way to lags: what the descent found for a question, and what that says of the sheet.
 use mathlib.Core.Path.{_≡_}
 use mathlib.Core.List.{List}
-use Prim.Native.Nat.{ℕ, _≤_, _<_, min}
+use Prim.Native.Nat.{ℕ, _<_, min}
 use lib.ListN.{length, getD}
 use Rattle.sheet.specs.Lag.{lagOf}
-use Rattle.sheet.specs.Core.{blocksIn, coreOf}
+use Rattle.sheet.specs.Core.{coreOf}
 use Rattle.descent.specs.System.{Keeps}
 use Rattle.descent.specs.State.{AtRest}
 use Rattle.descent.specs.Least.{LeastRest}
@@ -16,11 +16,11 @@ use Rattle.periods.specs.declared.quick.Found.{Found}
 use Rattle.periods.specs.declared.quick.Found.the-variants as F
 
 -- on a table of keys. Periods from 1,048,575 on ask for no more than that one does: no path without a register is longer.
-abbrev pub Sought : List ℕ → List ℕ → List ℕ → Aim → List ℕ → List ℕ → Found → Type 0
-Sought keys lower upper (A.At c) e par (F.Lags value) = (value ≡ 0) × AtRest keys lower upper (min c 1048575) e par
-Sought keys lower upper A.Least e par (F.Lags value) = LeastRest keys lower upper 1048575 value e par
-Sought keys lower upper (A.At c) e par F.Nothing = Unit
-Sought keys lower upper A.Least e par F.Nothing = (x : ℕ → ℕ) → Keeps keys lower upper 1048575 x → ⊥
+abbrev pub Sought : List ℕ → List ℕ → List ℕ → Aim → List ℕ → Found → Type 0
+Sought keys lower upper (A.At c) e (F.Lags value) = (value ≡ 0) × AtRest keys lower upper (min c 1048575) e
+Sought keys lower upper A.Least e (F.Lags value) = LeastRest keys lower upper 1048575 value e
+Sought keys lower upper (A.At c) e F.Nothing = Unit
+Sought keys lower upper A.Least e F.Nothing = (x : ℕ → ℕ) → Keeps keys lower upper 1048575 x → ⊥
 
 -- lags that can be written out
 pub record Lags (e : List ℕ) : Type 0 where

@@ -1,6 +1,6 @@
 // The two lag questions, once the header is right: the quick way to lags, and the loop of a refusal where it finds none.
 ghost use mathlib.Core.Path.{_≡_};
-ghost use Prim.Native.Nat.{ℕ, _+_, _*_, _≤_};
+ghost use Prim.Native.Nat.{_+_, _*_, _≤_};
 ghost use lib.ListN.{length};
 ghost use Rattle.sheet.specs.Core.{blocksIn, wiresIn};
 ghost use Rattle.sheet.specs.Rules.{First};

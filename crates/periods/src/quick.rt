@@ -1,12 +1,10 @@
 // The quick way to lags: the sheet's rules as one table of keys, and a descent from the upper limits.
 ghost use mathlib.Core.Path.{_≡_};
-ghost use Prim.Native.Nat.{ℕ, _≤_, _<_, min};
-ghost use mathlib.Core.List.{List};
-ghost use lib.ListN.{length, replicate};
+ghost use Prim.Native.Nat.{_<_, min};
+ghost use lib.ListN.{replicate};
 ghost use Rattle.sheet.specs.Core.{blocksIn, wiresIn};
 ghost use Rattle.paths.specs.Questions.{SoundSheet};
 ghost use Rattle.descent.specs.System.{Fit};
-ghost use Rattle.descent.specs.Laws.System as D;
 ghost use Rattle.periods.specs.Quick.{Sought, Quick};
 use bounds::load_rules;
 use descent::least::least;
@@ -31,29 +29,30 @@ fn shorter(c: u32) -> u32
     LONGEST
 }
 
-// From the upper limits, which stand in e, down to the lags that are asked for.
+// From the upper limits down to the lags that are asked for.
 fn sought(
     aim: Aim,
     keys: &[u32; 4096],
     lower: &[u32; 64],
+    upper: &[u32; 64],
     e: &mut [u32; 64],
-    par: &mut [u32; 64],
 ) -> Found
-    requires { ⌜ Fit (now keys) (now lower) (now e) × (now par ≡ D.none) ⌝ }
-    ensures { λ r. ⌜ Sought (now (keys .entry)) (now (lower .entry)) (now (e .entry)) aim (now (e .exit)) (now (par .exit)) r ⌝ }
+    requires { ⌜ Fit (now keys) (now lower) (now upper) × (now e ≡ now upper) ⌝ }
+    ensures { λ r. ⌜ Sought (now (keys .entry)) (now (lower .entry)) (now (upper .entry)) aim (now (e .exit)) r ⌝ }
 {
+    let mut links = [64u32; 64];
     match aim {
         Aim::At(c) => {
-            if settle(keys, shorter(c), lower, e, par) != 0 {
+            if settle(keys, shorter(c), lower, upper, e, &mut links) != 0 {
                 return Found::Nothing;
             }
             Found::Lags(0)
         }
         Aim::Least => {
-            if settle(keys, LONGEST, lower, e, par) != 0 {
+            if settle(keys, LONGEST, lower, upper, e, &mut links) != 0 {
                 return Found::Nothing;
             }
-            Found::Lags(least(keys, lower, e, par))
+            Found::Lags(least(keys, lower, upper, e, &mut links))
         }
     }
 }
@@ -65,7 +64,7 @@ pub fn quick(s: &[u8], n: usize, m: usize, aim: Aim, e: &mut [u32; 64]) -> Found
 {
     let mut keys = [0u32; 4096];
     let mut lower = [32768u32; 64];
-    let mut par = [0u32; 64];
     load_rules(s, n, m, &mut keys, &mut lower, e);
-    sought(aim, &keys, &lower, e, &mut par)
+    let upper = *e;
+    sought(aim, &keys, &lower, &upper, e)
 }

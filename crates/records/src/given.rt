@@ -1,6 +1,6 @@
-// The lists that a record gives after its sheet: lags for a move, words for a loop check.
+// What a record gives: how many blocks its sheet names, and after the sheet lags for a move or words for a loop check.
 ghost use mathlib.Core.Path.{_≡_};
-ghost use Prim.Native.Nat.{_≤_};
+ghost use Prim.Native.Nat.{_≤_, _<_};
 ghost use lib.ListN.{length};
 ghost use Rattle.records.specs.Given.{LagsOf, WordsOf};
 use sheet::bytes::excess_at;
@@ -28,4 +28,24 @@ pub fn words(more: &[u8]) -> [u16; 4300]
         list[i] = u16_at(more, 2 * i) as u16;
     }
     list
+}
+
+// The blocks that the sheet's first two bytes name; 0 where it is shorter.
+pub fn blocks(sheet: &[u8]) -> usize
+    ensures { λ r. ⌜ r < 65536 ⌝ }
+{
+    if sheet.len() < 2 {
+        return 0;
+    }
+    u16_at(sheet, 0) as usize
+}
+
+// So many entries, and never more than a list of `length` has.
+pub fn at_most(count: usize, length: usize) -> usize
+    ensures { λ r. ⌜ r ≤ length ⌝ }
+{
+    if count < length {
+        return count;
+    }
+    length
 }

@@ -57,6 +57,15 @@ pub fn refused(out: &mut [u8; 4096], used: &mut usize, answer: Answer) {
     byte(out, used, b'\n');
 }
 
+// The line that says whether all that was lent and not to be written is what it was before the call.
+pub fn kept_line(out: &mut [u8; 4096], used: &mut usize, kept: bool) {
+    if kept {
+        text(out, used, b"kept\n");
+        return;
+    }
+    text(out, used, b"changed\n");
+}
+
 // A line with a name and the first `count` entries of a list.
 pub fn list(
     out: &mut [u8; 4096],

@@ -1,6 +1,5 @@
 // The first bad block and the first bad wire of a sheet: refusals 5 and 6.
 ghost use mathlib.Core.Path.{_≡_};
-ghost use Prim.Native.Nat.{ℕ};
 ghost use Rattle.sheet.specs.Core.{blocksIn, wiresIn};
 ghost use Rattle.sheet.specs.Rules.{FirstOf, Staged};
 ghost use Rattle.sheet.specs.Sheet.{Framed, BlockGood, WireGood, entryRules};

@@ -1,6 +1,7 @@
 // Bytes to core: a sheet's header, blocks and wires, its lags, and the answers that refuse it.
 pub mod answer; // what a question answers, and a stage of one
 pub mod bytes; // numbers in a slice of bytes
+pub mod number; // the larger and the lesser of two numbers
 pub mod lag; // lags and their excess numbers
 pub mod frame; // the header: refusals 1, 2 and 3
 pub mod block; // one block entry

@@ -1,6 +1,5 @@
 // A formed sheet's numbers, held in lists: code above reads these and never a byte.
 ghost use mathlib.Core.Path.{_≡_};
-ghost use Prim.Native.Nat.{ℕ};
 ghost use lib.ListN.{length};
 ghost use Rattle.sheet.specs.Lag.{excess};
 ghost use Rattle.sheet.specs.Core.{blocksIn, wiresIn, delayIn, lowerIn, upperIn, fromIn, toIn, registersIn};

@@ -1,6 +1,6 @@
 // One wire entry of a sheet.
 ghost use mathlib.Core.Path.{_≡_};
-ghost use Prim.Native.Nat.{_+_, _*_, _<_, _≤_};
+ghost use Prim.Native.Nat.{_+_, _*_, _≤_};
 ghost use lib.ListN.{length};
 ghost use Rattle.sheet.specs.Core.{blocksIn};
 ghost use Rattle.sheet.specs.Reads.{WireOf, WireGiven};

@@ -1,5 +1,4 @@
 // The solver: from the upper limits down to the largest lags that keep all rules, or to a rule that leaves none.
-ghost use mathlib.Core.Path.{_≡_};
 ghost use Rattle.solver.specs.System.{Given, Within};
 ghost use Rattle.solver.specs.State.{State, Lists, Turned, AllHold, Settled};
 use crate::sweep::longest_delay;

@@ -1,12 +1,13 @@
 // Sweeps: the rules of a kind, one after another; and whether there is a path rule at all.
 ghost use mathlib.Core.Path.{_≡_};
-ghost use Prim.Native.Nat.{_*_, _<_, _≤_};
+ghost use Prim.Native.Nat.{_*_, _<_};
 ghost use lib.ListN.{length};
 ghost use Rattle.solver.specs.System.{Given, Within};
 ghost use Rattle.solver.specs.State.{State, Turned, Wires, WiresHold, Paths, RowHolds, PathsHold};
 use crate::Turn;
 use crate::relax::relax;
 use crate::relax::relax_path;
+use sheet::number::larger;
 
 // The rules `base + j` of m wires, each from the block from[j] to the block to[j] with the bound bounds[j].
 pub fn sweep_wires(
@@ -91,15 +92,6 @@ pub fn sweep_paths(
         u += 1;
     }
     Turn::Kept(changed)
-}
-
-fn larger(x: u32, y: u32) -> u32
-    ensures { λ r. ⌜ (x ≤ r) × (y ≤ r) ⌝ }
-{
-    if x < y {
-        return y;
-    }
-    x
 }
 
 // The longest delay of the path table: at a period that is no shorter there is no path rule.

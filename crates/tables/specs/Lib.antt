@@ -1,4 +1,5 @@
 pub mod Row
+pub mod Back
 pub mod Keys
 pub mod Questions
 pub mod Laws

@@ -1,8 +1,8 @@
 -- The question path table: its promise, of the input, the lent lists before, and the outcome.
 use mathlib.Core.Path.{_≡_}
 use mathlib.Core.List.{List, [], _∷_, _++_}
-use Prim.Native.Nat.{ℕ, _+_, _*_, _≤_, _<_}
-use lib.ListN.{length, getD}
+use Prim.Native.Nat.{ℕ, _+_, _*_}
+use lib.ListN.{length}
 use Rattle.sheet.specs.Core.{blocksIn, registersIn, shapeOf}
 use Rattle.sheet.specs.Rules.{Rule, First, answer, stage}
 use Rattle.sheet.specs.Sheet.{frameRules}

@@ -1,6 +1,5 @@
 // The path table, row after row; the question path table.
 ghost use mathlib.Core.Path.{_≡_};
-ghost use mathlib.Core.List.{[], _∷_, _++_};
 ghost use Rattle.sheet.specs.Core.{blocksIn, wiresIn};
 ghost use Rattle.sheet.specs.Rules.{First};
 ghost use Rattle.sheet.specs.Sheet.{Framed};

@@ -1,6 +1,5 @@
 -- A path link's wires, found backward along a row of the path table.
 use mathlib.Core.Path.{_≡_}
-use mathlib.Core.Logic.{_⊎_}
 use mathlib.Core.List.{List}
 use Prim.Native.Nat.{ℕ, _+_, _*_, _≤_, _<_}
 use lib.ListN.{length, getD, drop}
@@ -8,6 +7,7 @@ use Rattle.sheet.specs.Core.{Shape, blocksIn, registersIn, shapeOf}
 use Rattle.paths.specs.Path.{Joins, registersOn, delayOn}
 use Rattle.paths.specs.Table.{Best, Table}
 use Rattle.paths.specs.Questions.{SoundSheet}
+use Rattle.tables.specs.Back.{Completed}
 
 -- a sound sheet of n blocks with its path table
 pub record Tabled (s : List ℕ) (n : ℕ) (registers delays : List ℕ) : Type 0 where
@@ -27,19 +27,9 @@ abbrev pub Based : ℕ → ℕ → ℕ → ℕ → ℕ → Type 0
 Based start u f entry r = (f ≡ u → r ≡ start) × ((f ≡ u → ⊥) → r ≡ entry)
 
 module _ (s : Shape) (w : ℕ → ℕ) (u v W D : ℕ) where
-  -- wire j into v completes what stands at its start to W registers and delay D
-  pub record Completed (j : ℕ) : Type 0 where
-    pub registers : ℕ
-    pub delay : ℕ
-    pub wire-lt : j < s .m
-    pub end : s .to j ≡ v
-    pub registers-is : W ≡ registers + w j
-    pub delay-is : D ≡ delay + s .delay v
-    pub base : ((s .from j ≡ u) × (registers ≡ 0) × (delay ≡ s .delay u)) ⊎ ((s .from j ≡ u → ⊥) × Best s w u (s .from j) registers delay)
-
   -- no wire before j completes it
   abbrev pub NoneBefore : ℕ → Type 0
-  NoneBefore j = (i : ℕ) → Completed i → j ≤ i
+  NoneBefore j = (i : ℕ) → Completed s w u v W D i → j ≤ i
 
   -- the pair's best path is the bare start block, or is not
   abbrev pub Bare : Type 0

@@ -1,11 +1,9 @@
 -- The lists hold the sheet's core, so the keys are those of its paths and ceilings.
-use native.Mathlib.Omega.{arith}
 use mathlib.Core.Path.{ap, _∙_}
 use Prim.Native.Nat.{ℕ}
 use lib.ListN.{length, length-replicate}
 use Rattle.paths.specs.Laws.Loaded.{loaded}
 use Rattle.bounds.specs.Laws.Loaded.{slow-paths, ruled}
-use borrow.Author.Needs.{needs}
 use Rattle.bounds.proofs.load_rules.Statement.{statement}
 use Rattle.bounds.proofs.load_rules.Tie as tie
 

@@ -1,6 +1,6 @@
 -- Lists that were loaded and filled from a sound sheet are its rules.
 -- Assumes nothing.
-use mathlib.Core.Path.{_≡_, refl, sym, ap, _∙_}
+use mathlib.Core.Path.{_≡_, ap, _∙_}
 use mathlib.Core.Logic.{_⊎_, inl, inr}
 use mathlib.Core.List.{List}
 use Prim.Native.Nat.{ℕ, _+_, _-_, _*_, _/_, _%_, _≤_, _<_}
@@ -13,13 +13,12 @@ use Rattle.sheet.specs.Filled.{filled}
 use Rattle.sheet.specs.Laws.Filled.{length-filled, filled-at, filled-past}
 use Rattle.sheet.specs.Laws.Formed.{formed-core}
 use Rattle.paths.specs.Lists.{held, listShape}
-use Rattle.paths.specs.Path.{Joins, registersOn, delayOn}
 use Rattle.paths.specs.Table.{Way}
 use Rattle.paths.specs.Questions.{SoundSheet}
 use Rattle.paths.specs.Laws.Path.{joins-start-lt, joins-end-lt}
 use Rattle.paths.specs.Laws.Same.{same-sym, joins-same, registers-same, delay-same, way-same}
 use Rattle.paths.specs.Laws.Loaded.{Loaded}
-use Rattle.keys.specs.Keys.{Loose, Slow, KeyRight, Keyed, Folded}
+use Rattle.keys.specs.Keys.{Loose, Slow, Keyed, Folded}
 use Rattle.bounds.specs.Ruled.{Key, loose, path, ceiling, Ruled}
 use Rattle.bounds.specs.Laws.Slow.{slow, free-quick}
 

@@ -1,8 +1,6 @@
 -- T3 on the table of keys: below the period 1048576 lags meet a period exactly if they keep its rules.
 -- Assumes nothing.
-use mathlib.Core.Path.{_≡_, refl, sym, ap, _∙_}
-use mathlib.Core.Logic.{_⊎_, inl, inr}
-use mathlib.Core.Bool.{cond}
+use mathlib.Core.Path.{_≡_, refl, ap, _∙_}
 use mathlib.Core.List.{List, [], _∷_}
 use Prim.Native.Nat.{ℕ, _+_, _*_, _≤_, _<_}
 use native.Mathlib.Omega.{arith}
@@ -12,11 +10,10 @@ use lib.IntN.{ℤ, pos}
 use lib.Signed.{_≤ℤ_}
 use lib.ListN.{getD}
 use Rattle.sheet.specs.Lag.{excess, lagOf}
-use Rattle.sheet.specs.Core.{Core, blocksIn, wiresIn, lowerIn, upperIn, fromIn, toIn, registersIn, shapeOf, coreOf}
+use Rattle.sheet.specs.Core.{blocksIn, wiresIn, lowerIn, upperIn, fromIn, toIn, registersIn, shapeOf, coreOf}
 use Rattle.sheet.specs.Sheet.{Formed}
 use Rattle.sheet.specs.Laws.Integer.{up, down, sub-parts, le-parts, parts-le}
-use Rattle.sheet.specs.Laws.Lag.{excess-parts}
-use Rattle.sheet.specs.Laws.Sheet.{lower-fits, upper-fits}
+use Rattle.sheet.specs.Laws.Sheet.{lower-parts, upper-parts}
 use Rattle.sheet.specs.Laws.Formed.{formed-core, formed-numbers}
 use Rattle.paths.specs.Path.{Joins, registersOn, delayOn}
 use Rattle.paths.specs.Table.{Way}
@@ -24,7 +21,7 @@ use Rattle.paths.specs.Laws.Path.{joins-start-lt, joins-end-lt}
 use Rattle.moves.specs.Lags.{movedBy, InRange, Fits, Permitted, MovedTo, Meets}
 use Rattle.moves.specs.Laws.Lags.{telescope, loop-back}
 use Rattle.moves.specs.Laws.Lattice.{value, moved-to}
-use Rattle.moves.specs.Laws.Written.{lag-fits}
+use Rattle.moves.specs.Laws.Written as L
 use Rattle.descent.specs.System.{Fit, Keeps, Floor}
 use Rattle.descent.specs.State.{AtRest}
 use Rattle.bounds.specs.Ruled.{Key, loose, path, ceiling, Ruled, padded}
@@ -67,10 +64,10 @@ module _ {s keys lower upper : List ℕ} (R : Ruled s keys lower upper) where
       }
 
   low-parts : (b : ℕ) → b < blocksIn s → getD lower b 0 + down (lowerIn s b) ≡ up (lowerIn s b) + 32768
-  low-parts b k = omega (arith, R .lower-is b k, excess-parts (lowerIn s b) (lower-fits b _ _ _ (formed .block b k)))
+  low-parts b k = omega (arith, R .lower-is b k, lower-parts b _ _ _ (formed .block b k))
 
   high-parts : (b : ℕ) → b < blocksIn s → getD upper b 0 + down (upperIn s b) ≡ up (upperIn s b) + 32768
-  high-parts b k = omega (arith, R .upper-is b k, excess-parts (upperIn s b) (upper-fits b _ _ _ (formed .block b k)))
+  high-parts b k = omega (arith, R .upper-is b k, upper-parts b _ _ _ (formed .block b k))
 
   -- ---- lags that meet a period keep its rules
   module _ (p : ℕ) (short : p < 1048576) (r : ℕ → ℤ) (M : Meets (coreOf s) p r) where
@@ -84,7 +81,7 @@ module _ {s keys lower upper : List ℕ} (R : Ruled s keys lower upper) where
     outside b k = rw (le-ltb b (blocksIn s) k)
 
     lag-parts : (b : ℕ) → b < blocksIn s → e b + down (r b) ≡ up (r b) + 32768
-    lag-parts b k = omega (arith, inside b k, excess-parts (r b) (lag-fits s (R .sound .formed) r b k (M .permitted .in-range b k)))
+    lag-parts b k = omega (arith, inside b k, L.lag-parts s (R .sound .formed) r b k (M .permitted .in-range b k))
 
     within : (b : ℕ) → b < 64 → (getD lower b 0 ≤ e b) × (e b ≤ getD upper b 0)
     within b h = go (decLt b (blocksIn s))
@@ -181,7 +178,7 @@ module _ {s keys lower upper : List ℕ} (R : Ruled s keys lower upper) where
 -- ---- what the descent finds
 module _ {s keys lower upper : List ℕ} (R : Ruled s keys lower upper) {c : ℕ} (short : c < 1048576) where
   -- lags at rest are the largest that meet the period
-  module _ {e par : List ℕ} (A : AtRest keys lower upper c e par) where
+  module _ {e : List ℕ} (A : AtRest keys lower upper c e) where
     pub rest-meets : Meets (coreOf s) c (λ b. lagOf (getD e b 0))
     rest-meets = keeps-meets R c short (λ b. getD e b 0) (A .keeps)
 

@@ -1,12 +1,11 @@
 -- How long a path can be: where register-free paths take at most p, each register more adds at most p.
 -- Assumes nothing.
-use mathlib.Core.Path.{_≡_, refl, sym, ap, _∙_, subst}
+use mathlib.Core.Path.{_≡_, refl}
 use mathlib.Core.List.{List, [], _∷_, _++_, append-assoc}
-use Prim.Native.Nat.{ℕ, zero, suc, _+_, _*_, _≤_, _<_}
+use Prim.Native.Nat.{ℕ, _+_, _*_, _≤_, _<_}
 use native.Mathlib.Omega.{arith}
 use native.Mathlib.Nat.{add-mul, mul-le-mul}
 use native.Mathlib.Decide.{ℕ-discrete}
-use lib.ListN.{length}
 use Rattle.sheet.specs.Core.{Core, Shape}
 use Rattle.sheet.specs.Sheet.{Formed}
 use Rattle.paths.specs.Path.{Joins, registersOn, delayOn, endOf}

@@ -92,7 +92,7 @@ reach-end {keys} {e} {k} {least} {r} M le q = record {
     short d K (no h) = omega (arith, M .most (1048575 - d) (omega arith) (λ a b ha hb. omega (arith, K a b ha hb)))
 
 -- ---- the search
-module _ {keys lower upper : List ℕ} {c : ℕ} {e par : List ℕ} (A : AtRest keys lower upper c e par) where
+module _ {keys lower upper : List ℕ} {c : ℕ} {e : List ℕ} (A : AtRest keys lower upper c e) where
   pub resting : c < 1048576 → Resting keys e
   resting h =
       let S = A .state in
@@ -111,7 +111,7 @@ module _ {keys lower upper : List ℕ} {c : ℕ} {e par : List ℕ} (A : AtRest 
   reach-within R = R .least c (A .keeps .rule)
 
   -- lags at rest are at rest at the period that they reach
-  pub reach-rest : {r : ℕ} → Reach keys e r → AtRest keys lower upper r e par
+  pub reach-rest : {r : ℕ} → Reach keys e r → AtRest keys lower upper r e
   reach-rest R = record {
     state = state-stays (reach-within R) (A .state);
     keeps = record { rule = R .kept; low = A .keeps .low; high = A .keeps .high };
@@ -126,20 +126,20 @@ module _ {keys lower upper : List ℕ} {c : ℕ} {e par : List ℕ} (A : AtRest 
       go (no h) = absurd (F c (λ b. getD e b 0) (omega arith) (A .keeps))
 
 -- the search has come to the periods from `low` on, and to lags at rest at `high`
-pub record Searched (keys lower upper : List ℕ) (c low high : ℕ) (e par : List ℕ) : Type 0 where
-  pub rest : AtRest keys lower upper high e par
+pub record Searched (keys lower upper : List ℕ) (c low high : ℕ) (e : List ℕ) : Type 0 where
+  pub rest : AtRest keys lower upper high e
   pub floor : Floor keys lower upper low
   pub within : high ≤ c
 
-pub search-start : {keys lower upper : List ℕ} {c r : ℕ} {e par : List ℕ} → AtRest keys lower upper c e par → Reach keys e r → Searched keys lower upper c 0 r e par
+pub search-start : {keys lower upper : List ℕ} {c r : ℕ} {e : List ℕ} → AtRest keys lower upper c e → Reach keys e r → Searched keys lower upper c 0 r e
 search-start A R = record { rest = reach-rest A R; floor = floor-none; within = reach-within A R }
 
-module _ {keys lower upper : List ℕ} {c low high : ℕ} {e par : List ℕ} (H : Searched keys lower upper c low high e par) {middle : ℕ} {e′ par′ : List ℕ} {r : ℕ} (T : Settled keys lower upper middle e′ par′ r) where
+module _ {keys lower upper : List ℕ} {c low high : ℕ} {e : List ℕ} (H : Searched keys lower upper c low high e) {middle : ℕ} {e′ links′ : List ℕ} {r : ℕ} (T : Settled keys lower upper middle e′ links′ r) where
   -- lags at rest at the middle
   pub search-less : {h : ℕ} → r ≡ 0 → Reach keys e′ h → h ≤ middle
   search-less z R = reach-within (T .rest z) R
 
-  pub search-down : {h : ℕ} → r ≡ 0 → middle ≤ high → Reach keys e′ h → Searched keys lower upper c low h e′ par′
+  pub search-down : {h : ℕ} → r ≡ 0 → middle ≤ high → Reach keys e′ h → Searched keys lower upper c low h e′
   search-down z le R = record {
     rest = reach-rest (T .rest z) R;
     floor = H .floor;
@@ -147,10 +147,10 @@ module _ {keys lower upper : List ℕ} {c low high : ℕ} {e par : List ℕ} (H 
   }
 
   -- none below r
-  pub search-up : (r ≡ 0 → ⊥) → Searched keys lower upper c r high e par × (middle < r) × (r ≤ high)
+  pub search-up : (r ≡ 0 → ⊥) → Searched keys lower upper c r high e × (middle < r) × (r ≤ high)
   search-up n =
-      let q = T .none n in
+      let q = T .stop .none n in
       (record { rest = H .rest; floor = q .1; within = H .within }, q .0, floor-under (H .rest) (q .1))
 
-pub search-end : {keys lower upper : List ℕ} {c low high : ℕ} {e par : List ℕ} → Searched keys lower upper c low high e par → high ≤ low → LeastRest keys lower upper c high e par
+pub search-end : {keys lower upper : List ℕ} {c low high : ℕ} {e : List ℕ} → Searched keys lower upper c low high e → high ≤ low → LeastRest keys lower upper c high e
 search-end H le = record { rest = H .rest; floor = λ d s h K. H .floor d s (omega arith) K; within = H .within }

@@ -1,6 +1,4 @@
 -- Every sweep but the last lowers the sum of the keys; after it all wires hold.
-use borrow.Author.Needs.{needs}
-use native.Mathlib.Omega.{arith}
 use native.Mathlib.Omega.{arith}
 use Rattle.paths.specs.Lists.{held, listShape}
 use Rattle.keys.specs.Filling.{Settling}

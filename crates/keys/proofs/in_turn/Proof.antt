@@ -1,6 +1,5 @@
 -- Tested, or plain.
 use native.Mathlib.Omega.{arith}
-use native.Mathlib.Omega.{arith}
 use Rattle.keys.specs.Laws.Entry.{counts-same}
 use Rattle.keys.specs.Laws.Order.{complete-true, ends-of}
 use Prim.Native.Nat.{ℕ}

@@ -1,5 +1,4 @@
 -- `lez::lez_best` meets its contract.
-use native.Mathlib.Omega.{arith}
 use borrow.Author.Needs.{needs}
 use Rattle.lez.proofs.lez_best.Statement.{statement}
 use Rattle.lez.proofs.lez_best.Tie as tie

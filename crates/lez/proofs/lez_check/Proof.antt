@@ -1,5 +1,4 @@
 -- `lez::lez_check` meets its contract.
-use native.Mathlib.Omega.{arith}
 use borrow.Author.Needs.{needs}
 use Rattle.lez.proofs.lez_check.Statement.{statement}
 use Rattle.lez.proofs.lez_check.Tie as tie

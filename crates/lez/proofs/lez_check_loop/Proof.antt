@@ -1,5 +1,4 @@
 -- `lez::lez_check_loop` meets its contract.
-use native.Mathlib.Omega.{arith}
 use borrow.Author.Needs.{needs}
 use Rattle.lez.proofs.lez_check_loop.Statement.{statement}
 use Rattle.lez.proofs.lez_check_loop.Tie as tie

@@ -1,5 +1,4 @@
 -- `lez::lez_lags_at` meets its contract.
-use native.Mathlib.Omega.{arith}
 use borrow.Author.Needs.{needs}
 use Rattle.lez.proofs.lez_lags_at.Statement.{statement}
 use Rattle.lez.proofs.lez_lags_at.Tie as tie

@@ -1,5 +1,4 @@
 -- `lez::lez_move` meets its contract.
-use native.Mathlib.Omega.{arith}
 use borrow.Author.Needs.{needs}
 use Rattle.lez.proofs.lez_move.Statement.{statement}
 use Rattle.lez.proofs.lez_move.Tie as tie

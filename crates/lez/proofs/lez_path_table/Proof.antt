@@ -1,5 +1,4 @@
 -- `lez::lez_path_table` meets its contract.
-use native.Mathlib.Omega.{arith}
 use borrow.Author.Needs.{needs}
 use Rattle.lez.proofs.lez_path_table.Statement.{statement}
 use Rattle.lez.proofs.lez_path_table.Tie as tie

@@ -1,5 +1,4 @@
 -- `lez::lez_period` meets its contract.
-use native.Mathlib.Omega.{arith}
 use borrow.Author.Needs.{needs}
 use Rattle.lez.proofs.lez_period.Statement.{statement}
 use Rattle.lez.proofs.lez_period.Tie as tie

@@ -12,9 +12,8 @@ use Rattle.sheet.specs.Core.{coreOf, blocksIn, wiresIn, delayIn, lowerIn, upper
 use Rattle.sheet.specs.Sheet.{BlockGood}
 use Rattle.sheet.specs.Reads.{BlockIs, WireIs}
 use Rattle.sheet.specs.Laws.Integer.{up, down, minus, negated}
-use Rattle.sheet.specs.Laws.Lag.{excess-parts}
-use Rattle.sheet.specs.Laws.Sheet.{lower-fits, upper-fits}
-use Rattle.loops.specs.Link.{Link, wire, path, upper, lower, ceiling, wordsOf, Good}
+use Rattle.sheet.specs.Laws.Sheet.{lower-parts, upper-parts}
+use Rattle.loops.specs.Link.{Link, wire, upper, lower, ceiling, wordsOf, Good}
 use Rattle.loops.specs.Reads.{Spelt, HeadIs, HeadGiven, LinkIs, LinkGiven, WireSettled, BlockSettled}
 use Rattle.loops.specs.Laws.Words.{same-link, two-words, known-kind, path-words, two-spell}
 use Rattle.loops.specs.declared.link.Link as D
@@ -123,10 +122,10 @@ module _ (s : List ℕ) (at kind b : ℕ) where
 
   module _ (d lo hi : ℕ) (i : BlockIs s b d lo hi) (o : BlockGood s b) (h : b < blocksIn s) where
     lower-excess : lo + down (lowerIn s b) ≡ up (lowerIn s b) + 32768
-    lower-excess = omega (arith, i .lower-is, excess-parts (lowerIn s b) (lower-fits b (delayIn s b) (lowerIn s b) (upperIn s b) o))
+    lower-excess = omega (arith, i .lower-is, lower-parts b (delayIn s b) (lowerIn s b) (upperIn s b) o)
 
     upper-excess : hi + down (upperIn s b) ≡ up (upperIn s b) + 32768
-    upper-excess = omega (arith, i .upper-is, excess-parts (upperIn s b) (upper-fits b (delayIn s b) (lowerIn s b) (upperIn s b) o))
+    upper-excess = omega (arith, i .upper-is, upper-parts b (delayIn s b) (lowerIn s b) (upperIn s b) o)
 
     pub upper-good : kind ≡ 3 → BlockSettled s at kind b (R.Good (record { link = L.Block kind b; a = b; b = 0; k = hi; next = at + 2 }))
     upper-good e p words (inl g) = record {

@@ -1,22 +1,22 @@
 -- T4: a valid loop rules its period out; without kind 2 it rules out all permitted lags.
 -- Assumes nothing.
-use mathlib.Core.Path.{_≡_, refl, sym, ap, _∙_}
+use mathlib.Core.Path.{_≡_, refl, ap}
 use mathlib.Core.Logic.{inl, inr}
-use mathlib.Core.List.{List, [], _∷_, _++_}
-use Prim.Native.Nat.{ℕ, suc, _+_, _≤_, _<_}
+use mathlib.Core.List.{List, [], _∷_}
+use Prim.Native.Nat.{ℕ, _+_, _≤_, _<_}
 use native.Mathlib.Omega.{arith}
 use native.Mathlib.Decide.{ℕ-discrete}
 use lib.Dec.{ltb→lt}
-use lib.IntN.{ℤ, pos, negsuc, negℤ, _+ℤ_, _-ℤ_}
-use lib.Signed.{_≤ℤ_, _<ℤ_}
+use lib.IntN.{ℤ, pos, negsuc}
+use lib.Signed.{_<ℤ_}
 use Rattle.sheet.specs.Core.{Core, coreOf}
 use Rattle.sheet.specs.Sheet.{Formed, frameRules}
-use Rattle.sheet.specs.Rules.{First, None, refusal, answer}
-use Rattle.sheet.specs.Laws.Integer.{up, down, plus, minus, negated, le-parts, parts-le, parts-eq}
+use Rattle.sheet.specs.Rules.{First, refusal, answer}
+use Rattle.sheet.specs.Laws.Integer.{up, down, plus, minus, negated, le-parts, parts-eq}
 use Rattle.sheet.specs.Laws.Rules.{past}
 use Rattle.sheet.specs.Laws.Formed.{formed-core, frame-nonzero}
 use Rattle.sheet.specs.declared.answer.Answer.{Answer}
-use Rattle.paths.specs.Path.{Joins, registersOn, delayOn, endOf}
+use Rattle.paths.specs.Path.{registersOn, endOf}
 use Rattle.paths.specs.Questions.{soundRules}
 use Rattle.paths.specs.Laws.Questions.{sound-nonzero, sound-sheet}
 use Rattle.moves.specs.Lags.{movedBy, Permitted, Meets}

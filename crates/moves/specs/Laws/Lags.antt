@@ -1,20 +1,16 @@
 -- What a move does to paths, walks, entries and lags; all on cores, in integers.
 -- Assumes nothing.
-use mathlib.Core.Path.{_≡_, refl, sym, ap, _∙_, subst}
+use mathlib.Core.Path.{_≡_, ap}
 use mathlib.Core.Bool.{Bool, true, false, cond}
-use mathlib.Core.Logic.{_⊎_, inl, inr}
 use mathlib.Core.List.{List, [], _∷_}
-use Prim.Native.Nat.{ℕ, _+_, _≤_, _<_}
+use Prim.Native.Nat.{ℕ, _+_, _<_}
 use native.Mathlib.Omega.{arith}
-use lib.IntN.{ℤ, pos, negsuc, _+ℤ_, _-ℤ_}
-use lib.Signed.{_≤ℤ_}
-use Rattle.sheet.specs.Core.{Core, Shape}
-use Rattle.sheet.specs.Sheet.{Formed, BlockRule, LagLimits}
-use Rattle.sheet.specs.Laws.Integer.{up, down, plus, minus, le-parts, parts-le, parts-eq}
-use Rattle.paths.specs.Path.{Joins, registersOn, delayOn, Step, stepFrom, stepTo, Walks, walked}
-use Rattle.paths.specs.Table.{LoopAt, Way, Best, Entry, best, none, Sound}
-use Rattle.paths.specs.Laws.Same.{SameWires, SameDelays, same-sym, delays-sym, joins-same, registers-same, loop-same, entry-same}
-use Rattle.moves.specs.Lags.{movedBy, InRange, Fits, Permitted, MovedTo, Meets, Moved}
+use lib.IntN.{ℤ, pos, _+ℤ_, _-ℤ_}
+use Rattle.sheet.specs.Core.{Core}
+use Rattle.sheet.specs.Laws.Integer.{up, down, plus, minus, parts-eq}
+use Rattle.paths.specs.Path.{Joins, registersOn, Step, stepTo, Walks, walked}
+use Rattle.paths.specs.Table.{LoopAt, Best}
+use Rattle.moves.specs.Lags.{MovedTo}
 
 -- ---- the move rule without subtraction
 rule-parts : (w x : ℕ) (a b : ℤ) → pos x ≡ pos w +ℤ b -ℤ a → x + up a + down b ≡ w + up b + down a

@@ -1,18 +1,18 @@
 -- T11: of two lag lists that meet a period, the list of larger and the list of smaller lags meet it too.
 -- Assumes nothing.
-use mathlib.Core.Path.{_≡_, refl, sym, ap, _∙_}
+use mathlib.Core.Path.{_≡_, refl, sym, ap}
 use mathlib.Core.Logic.{_⊎_, inl, inr}
 use mathlib.Core.List.{List}
 use Prim.Native.Nat.{ℕ, _+_, _≤_, _<_}
 use native.Mathlib.Omega.{arith}
-use lib.IntN.{ℤ, pos, negsuc, _+ℤ_, _-ℤ_}
+use lib.IntN.{ℤ, pos, negsuc, _+ℤ_}
 use lib.Signed.{_≤ℤ_}
 use Rattle.sheet.specs.Core.{Core}
 use Rattle.sheet.specs.Sheet.{Formed}
 use Rattle.sheet.specs.Laws.Integer.{up, down, plus, minus, le-parts, parts-le, parts-eq}
 use Rattle.paths.specs.Path.{Joins, registersOn, delayOn}
 use Rattle.paths.specs.Laws.Path.{joins-start-lt, joins-end-lt}
-use Rattle.moves.specs.Lags.{movedBy, InRange, Fits, Permitted, MovedTo, Meets, Larger, Smaller}
+use Rattle.moves.specs.Lags.{movedBy, InRange, Permitted, MovedTo, Meets, Larger, Smaller}
 use Rattle.moves.specs.Laws.Lags.{telescope}
 
 -- permitted lags move every wire to a number of registers

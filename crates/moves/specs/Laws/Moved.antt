@@ -1,6 +1,6 @@
 -- The moved core: it is sound, its table is the old one shifted, and a second move is one by the sum of both lags.
 -- Assumes nothing.
-use mathlib.Core.Path.{_≡_, refl, sym, ap, _∙_, subst}
+use mathlib.Core.Path.{_≡_, refl, sym, ap, _∙_}
 use mathlib.Core.List.{List, [], _∷_}
 use Prim.Native.Nat.{ℕ, _+_, _*_, _≤_, _<_}
 use native.Mathlib.Omega.{arith}
@@ -8,13 +8,13 @@ use lib.IntN.{ℤ, pos, negsuc, _+ℤ_, _-ℤ_}
 use lib.Signed.{_≤ℤ_}
 use lib.ListN.{length}
 use Rattle.sheet.specs.Core.{Core, Shape}
-use Rattle.sheet.specs.Sheet.{Formed, BlockRule, LagLimits}
+use Rattle.sheet.specs.Sheet.{Formed, BlockRule}
 use Rattle.sheet.specs.Laws.Integer.{up, down, plus, minus, le-parts, parts-le, parts-eq}
-use Rattle.paths.specs.Path.{Joins, registersOn, delayOn}
-use Rattle.paths.specs.Table.{LoopAt, Way, Best, Entry, best, none, Sound}
+use Rattle.paths.specs.Path.{Joins, registersOn}
+use Rattle.paths.specs.Table.{LoopAt, Entry, best, none, Sound}
 use Rattle.paths.specs.Laws.Simple.{shorten}
-use Rattle.paths.specs.Laws.Same.{SameWires, SameDelays, same-sym, delays-sym, joins-same, loop-same, entry-same, delay-same}
-use Rattle.moves.specs.Lags.{movedBy, InRange, Fits, Permitted, MovedTo, Meets, Moved}
+use Rattle.paths.specs.Laws.Same.{SameWires, SameDelays, same-sym, joins-same, loop-same, entry-same, delay-same}
+use Rattle.moves.specs.Lags.{movedBy, InRange, Permitted, Meets, Moved}
 use Rattle.moves.specs.Laws.Lags.{telescope, path-moved, loop-back, best-moved}
 
 registers-few : (s : Shape) (x : ℕ → ℕ) → ((j : ℕ) → j < s .m → x j ≤ 2000) → (u : ℕ) (ws : List ℕ) (v : ℕ) → Joins s u ws v → registersOn x ws ≤ 2000 * length ws

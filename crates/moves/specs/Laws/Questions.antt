@@ -1,14 +1,14 @@
 -- How the question move ends.
 -- Assumes nothing.
-use mathlib.Core.Path.{_≡_, refl, sym, ap, _∙_}
+use mathlib.Core.Path.{_≡_, refl}
 use mathlib.Core.Logic.{inl, inr}
 use mathlib.Core.List.{List, [], _∷_, _++_}
 use Prim.Native.Nat.{ℕ, _≤_, _<_}
 use native.Mathlib.Omega.{arith}
 use lib.IntN.{ℤ}
-use lib.ListN.{length, getD, take}
+use lib.ListN.{length}
 use Rattle.sheet.specs.Bytes.{Bytes}
-use Rattle.sheet.specs.Core.{coreOf, blocksIn, wiresIn}
+use Rattle.sheet.specs.Core.{coreOf, blocksIn}
 use Rattle.sheet.specs.Rules.{Rule, First, None, answer, stage}
 use Rattle.sheet.specs.Sheet.{Framed, FormedSheet, frameRules}
 use Rattle.sheet.specs.Laws.Rules.{ends, goes-on}
@@ -16,7 +16,7 @@ use Rattle.sheet.specs.Laws.Sheet.{framed-none}
 use Rattle.sheet.specs.Laws.Formed.{stable, decLeℤ}
 use Rattle.sheet.specs.declared.answer.Answer.{Answer}
 use Rattle.paths.specs.Questions.{soundRules, roomRules}
-use Rattle.moves.specs.Lags.{lagsIn, movedBy, InRange, Fits, Permitted}
+use Rattle.moves.specs.Lags.{lagsIn, movedBy, Permitted}
 use Rattle.moves.specs.Move.{lagRules, MoveOutcome, moveOutcome, MoveDone, moveAfterFrame, MoveRight}
 use Rattle.moves.specs.Write.{written}
 use Rattle.moves.specs.Laws.Written.{written-moved, rest-kept}

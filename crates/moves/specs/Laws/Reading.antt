@@ -1,22 +1,22 @@
 -- The tests on excess numbers are the tests of 01 on lags.
 -- Assumes nothing.
-use mathlib.Core.Path.{_≡_, refl, sym, ap, _∙_}
+use mathlib.Core.Path.{_≡_, ap, _∙_}
 use mathlib.Core.List.{List}
 use Prim.Native.Nat.{ℕ, _+_, _-_, _<_, _≤_}
 use native.Mathlib.Omega.{arith}
-use lib.IntN.{ℤ, pos, _+ℤ_, _-ℤ_}
+use lib.IntN.{ℤ}
 use lib.Signed.{mag, _≤ℤ_}
 use Rattle.sheet.specs.Lag.{excess}
 use Rattle.sheet.specs.Core.{coreOf, blocksIn, wiresIn, lowerIn, upperIn, fromIn, toIn, registersIn}
-use Rattle.sheet.specs.Sheet.{BlockGood, WireGood}
+use Rattle.sheet.specs.Sheet.{BlockGood}
 use Rattle.sheet.specs.Reads.{ExcessIs, BlockIs, WireIs}
-use Rattle.sheet.specs.Laws.Lag.{order, moved-low, moved-high, moved-is}
+use Rattle.sheet.specs.Laws.Lag.{order, moved-low, moved-high}
 use Rattle.sheet.specs.Laws.Sheet.{lower-fits, upper-fits}
 use mathlib.Core.Logic.{inl, inr}
 use Rattle.sheet.specs.Rules.{First, None, FirstOf, answer}
 use Rattle.sheet.specs.Laws.Rules.{place-found, place-none}
 use Rattle.moves.specs.Move.{lagRules}
-use Rattle.moves.specs.Lags.{movedBy, InRange, Fits}
+use Rattle.moves.specs.Lags.{InRange, Fits}
 
 -- ---- one block: its lag's excess number e against its limits
 module _ (s : List ℕ) (r : ℕ → ℤ) (b d lo up e : ℕ) (i : BlockIs s b d lo up) (g : BlockGood s b) (x : ExcessIs (r b) e) where

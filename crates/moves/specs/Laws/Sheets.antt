@@ -2,22 +2,21 @@
 -- Assumes nothing.
 use mathlib.Core.Path.{_≡_, refl, sym, ap, _∙_, subst}
 use mathlib.Core.List.{List}
-use Prim.Native.Nat.{ℕ, suc, _+_, _*_, _-_, _/_, _%_, _<_, _≤_}
+use Prim.Native.Nat.{ℕ, _+_, _*_, _-_, _/_, _%_, _<_}
 use native.Mathlib.Omega.{arith}
 use native.Mathlib.Decide.{decLt, ℕ-discrete}
 use lib.IntN.{ℤ, pos, _+ℤ_, _-ℤ_}
-use lib.ListN.{length, getD}
+use lib.ListN.{getD}
 use lib.Seq.{ext-getD}
 use mir.Syntax.{w16}
-use mir.Val.{Fits}
 use mir.Facts.{toZ-inj}
 use Rattle.sheet.specs.Bytes.{Bytes, u16At, u32At, i16At}
 use Rattle.sheet.specs.Core.{coreOf, blocksIn, wiresIn, blockAt, wireAt, delayIn, lowerIn, upperIn, fromIn, toIn, registersIn, spareIn}
-use Rattle.sheet.specs.Sheet.{Offsets, Framed, FormedSheet, Formed}
-use Rattle.sheet.specs.Laws.Integer.{up, down, plus, minus, parts-eq}
+use Rattle.sheet.specs.Sheet.{FormedSheet, Formed}
+use Rattle.sheet.specs.Laws.Integer.{up, plus, minus, parts-eq}
 use Rattle.sheet.specs.Laws.Bytes.{u16-below}
 use Rattle.sheet.specs.Laws.Formed.{formed-core}
-use Rattle.moves.specs.Lags.{movedBy, Permitted, MovedTo, Moved}
+use Rattle.moves.specs.Lags.{Permitted, Moved}
 use Rattle.moves.specs.Move.{MovedSheet, Copied}
 use Rattle.moves.specs.Laws.Moved.{formed-moved, moved-twice}
 

@@ -1,16 +1,16 @@
 -- Demands 2 and 3 as far as moves go, on bytes, through the questions' own promises.
 -- Assumes nothing.
 use mathlib.Core.Path.{_≡_, refl, sym, ap, _∙_, subst}
-use mathlib.Core.Logic.{_⊎_, inl, inr, _↔_}
+use mathlib.Core.Logic.{inl, inr, _↔_}
 use mathlib.Core.List.{List, [], _∷_, _++_}
 use Prim.Native.Nat.{ℕ, _+_, _*_, _≤_, _<_}
 use native.Mathlib.Omega.{arith}
 use native.Mathlib.Decide.{decLt}
-use lib.IntN.{ℤ, pos, negsuc, _+ℤ_, _-ℤ_}
-use lib.Signed.{mag, _≤ℤ_}
+use lib.IntN.{ℤ, pos, _+ℤ_, _-ℤ_}
+use lib.Signed.{mag}
 use lib.ListN.{length, getD, take}
 use lib.Seq.{ext-getD, getD-take}
-use Rattle.sheet.specs.Core.{coreOf, blocksIn, wiresIn, lowerIn, upperIn, fromIn, toIn, registersIn}
+use Rattle.sheet.specs.Core.{coreOf, blocksIn, lowerIn, upperIn, fromIn, toIn, registersIn}
 use Rattle.sheet.specs.Rules.{Rule, First, Tight, Exact, answer, stage}
 use Rattle.sheet.specs.Sheet.{FormedSheet, frameRules}
 use Rattle.sheet.specs.Laws.Rules.{agree, tight-both, exact-tight, stage-exact, refusal-exact, place-exact, skip-stage, past-stage, NonZero, place-nonzero}
@@ -19,8 +19,8 @@ use Rattle.sheet.specs.Laws.Formed.{formed-core, frame-exact, frame-nonzero}
 use Rattle.sheet.specs.declared.answer.Answer.{Answer}
 use Rattle.paths.specs.Path.{Step, Walks, walked}
 use Rattle.paths.specs.Table.{Entry, best, none}
-use Rattle.paths.specs.Questions.{SoundSheet, soundRules, roomRules, KeptFrom, CheckRight}
-use Rattle.tables.specs.Questions.{TableOutcome, TableDone, TableRight}
+use Rattle.paths.specs.Questions.{SoundSheet, soundRules, roomRules, CheckRight}
+use Rattle.tables.specs.Questions.{TableOutcome, TableRight}
 use Rattle.paths.specs.Laws.Questions.{sound-exact, sound-nonzero, room-nonzero, sound-sheet, sheet-sound, sound-checks}
 use Rattle.tables.specs.Laws.Questions.{table-means}
 use Rattle.tables.specs.Laws.Entry.{entry-unique}
@@ -31,7 +31,7 @@ use Rattle.moves.specs.Laws.Questions.{none-permitted, permitted-none}
 use Rattle.moves.specs.Laws.Written.{lag-fits}
 use Rattle.moves.specs.Laws.Lags.{closed-walk-kept}
 use Rattle.moves.specs.Laws.Moved.{same-wires, range-after, loop-unmoved, entry-moved, permitted-after, permitted-before, meets-after, meets-before}
-use Rattle.moves.specs.Laws.Sheets.{same-blocks, same-count, moved-core, moved-formed, moved-unique, moves-compose, moved-by-zeros}
+use Rattle.moves.specs.Laws.Sheets.{same-blocks, moved-core, moved-formed, moved-unique, moves-compose, moved-by-zeros}
 use Rattle.moves.specs.Laws.Lattice.{meets-larger, meets-smaller}
 use Rattle.sheet.specs.Bytes.{Bytes}
 

@@ -1,13 +1,13 @@
 -- The loops that write the moved sheet: their turns, and the bounds on what they write.
 -- Assumes nothing.
-use mathlib.Core.Path.{_≡_, refl, sym, ap, _∙_, subst}
-use mathlib.Core.Bool.{Bool, true, false}
+use mathlib.Core.Path.{_≡_, refl, ap, _∙_}
+use mathlib.Core.Bool.{true, false}
 use mathlib.Core.List.{List}
 use Prim.Native.Nat.{ℕ, zero, suc, _+_, _*_, _-_, _%_, _<_, _≤_}
 use native.Mathlib.Omega.{arith}
 use native.Mathlib.Numerals.{add-one}
-use lib.IntN.{ℤ, pos}
-use lib.ListN.{length, getD}
+use lib.IntN.{ℤ}
+use lib.ListN.{length}
 use Rattle.sheet.specs.Lag.{excess}
 use Rattle.sheet.specs.Bytes.{put16}
 use Rattle.sheet.specs.Core.{coreOf, blocksIn, wiresIn, lowerIn, upperIn, fromIn, toIn, registersIn}
@@ -17,7 +17,7 @@ use Rattle.sheet.specs.Laws.Lag.{order, moved-low, moved-high}
 use Rattle.sheet.specs.Laws.Bytes.{length-put16}
 use Rattle.sheet.specs.Laws.Sheet.{block-numbers, lower-fits, upper-fits}
 use Rattle.moves.specs.Lags.{Permitted}
-use Rattle.moves.specs.Write.{puts, limitIn, limitBits, movedRegisters, limitsFrom, registersFrom, copied, written, LimitRead, RegistersMoved}
+use Rattle.moves.specs.Write.{puts, limitBits, movedRegisters, limitsFrom, registersFrom, copied, written, LimitRead, RegistersMoved}
 
 module _ (base : ℕ) (val : ℕ → ℕ) where
   pub puts-none : (l : List ℕ) → puts base val 0 l ≡ l

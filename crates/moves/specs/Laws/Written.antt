@@ -1,32 +1,31 @@
 -- What was written is the moved sheet, and nothing past it was touched.
 -- Assumes nothing.
-use mathlib.Core.Path.{_≡_, refl, sym, ap, _∙_, subst}
-use mathlib.Core.Bool.{Bool, true, false}
+use mathlib.Core.Path.{_≡_, refl, sym, ap, _∙_}
+use mathlib.Core.Bool.{true, false}
 use mathlib.Core.Logic.{_⊎_, inl, inr}
 use mathlib.Core.List.{List}
 use Prim.Native.Nat.{ℕ, zero, suc, _+_, _*_, _-_, _%_, _<_, _≤_}
 use native.Mathlib.Omega.{arith}
 use native.Mathlib.Decide.{ℕ-discrete, decLt}
-use lib.IntN.{ℤ, pos, negsuc, _+ℤ_, _-ℤ_}
+use lib.IntN.{ℤ, pos, negsuc, _-ℤ_}
 use lib.Signed.{mag}
 use lib.ListN.{length, getD, take, List·getD-eq-default}
 use lib.Seq.{length-take-le, getD-take}
 use mir.Syntax.{w16}
 use mir.Val.{toZ}
 use Rattle.sheet.specs.Lag.{excess, lagOf}
-use Rattle.sheet.specs.Bytes.{Bytes, u16At, i16At, put16}
+use Rattle.sheet.specs.Bytes.{Bytes, u16At}
 use Rattle.sheet.specs.Core.{coreOf, blocksIn, wiresIn, blockAt, wireAt, lowerIn, upperIn, fromIn, toIn, registersIn}
 use Rattle.sheet.specs.Sheet.{LagLimits, FormedSheet}
-use Rattle.sheet.specs.Filled.{filled}
 use Rattle.sheet.specs.Laws.Filled.{length-filled, filled-at, filled-past}
 use Rattle.sheet.specs.Laws.Integer.{up, down, sub-parts, minus, le-parts, parts-le, parts-eq}
 use Rattle.sheet.specs.Laws.Lag.{excess-parts, bits-lag, order, moved-is, moved-low}
-use Rattle.sheet.specs.Laws.Bytes.{length-put16, put16-other, put16-read, put16-apart}
+use Rattle.sheet.specs.Laws.Bytes.{put16-other, put16-read, put16-apart}
 use Rattle.sheet.specs.Laws.Sheet.{limits-fit, lower-fits, upper-fits, block-numbers}
 use Rattle.paths.specs.Questions.{KeptFrom}
 use Rattle.moves.specs.Lags.{InRange, Permitted, MovedTo}
 use Rattle.moves.specs.Move.{MovedSheet, Copied}
-use Rattle.moves.specs.Write.{puts, limitIn, limitBits, movedRegisters, limitsFrom, registersFrom, copied, written}
+use Rattle.moves.specs.Write.{puts, limitBits, movedRegisters, registersFrom, copied, written}
 use Rattle.moves.specs.Laws.Writing.{length-puts}
 
 -- ---- reading after puts
@@ -64,6 +63,10 @@ module _ (s : List ℕ) (f : FormedSheet s) (r : ℕ → ℤ) (b : ℕ) (h : b <
 
   pub lag-fits : mag (r b) < 32768
   lag-fits = limits-fit (r b) lag-limits
+
+  -- a lag and its excess number, without subtraction
+  pub lag-parts : excess (r b) + down (r b) ≡ up (r b) + 32768
+  lag-parts = excess-parts (r b) lag-fits
 
   lag-between : (excess (lowerIn s b) ≤ excess (r b)) × (excess (r b) ≤ excess (upperIn s b))
   lag-between = (

@@ -1,5 +1,4 @@
 -- The sheet's own refusals, else the period of a sound sheet.
-use native.Mathlib.Omega.{arith}
 use Rattle.sheet.specs.Laws.Rules.{refused, passed}
 use Rattle.sheet.specs.Laws.Sheet.{framed-none}
 use Rattle.paths.specs.Laws.Questions.{sound-sheet}

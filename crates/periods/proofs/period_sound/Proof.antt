@@ -1,5 +1,4 @@
 -- The lists hold the sheet's core, so the period is the sheet's.
-use native.Mathlib.Omega.{arith}
 use Prim.Native.Nat.{ℕ}
 use lib.ListN.{length-replicate}
 use Rattle.paths.specs.Laws.Same.{loop-same}

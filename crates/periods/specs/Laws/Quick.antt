@@ -1,25 +1,25 @@
 -- What the descent found says of the sheet.
 -- Assumes nothing.
-use mathlib.Core.Path.{_≡_, refl, sym, ap, _∙_, subst}
+use mathlib.Core.Path.{_≡_, refl, subst}
 use mathlib.Core.List.{List}
-use Prim.Native.Nat.{ℕ, _+_, _≤_, _<_, min}
+use Prim.Native.Nat.{ℕ, _≤_, _<_, min}
 use native.Mathlib.Omega.{arith}
-use native.Mathlib.Decide.{decLe, decLt}
+use native.Mathlib.Decide.{decLe}
 use native.Mathlib.Nat.{min-eq-left}
-use lib.IntN.{ℤ, pos}
+use lib.IntN.{ℤ}
 use lib.ListN.{length, getD}
 use Rattle.sheet.specs.Lag.{lagOf}
 use Rattle.sheet.specs.Core.{blocksIn, coreOf}
 use Rattle.sheet.specs.Filled.{filled}
 use Rattle.sheet.specs.Rules.{First, answer}
 use Rattle.paths.specs.Questions.{SoundSheet}
-use Rattle.moves.specs.Lags.{Permitted, Meets}
+use Rattle.moves.specs.Lags.{Meets}
 use Rattle.descent.specs.System.{Fit, Keeps}
 use Rattle.descent.specs.State.{State, AtRest, Settled}
-use Rattle.descent.specs.Laws.System as D
+use Rattle.descent.specs.Laws.System.{begun}
 use Rattle.descent.specs.Least.{LeastRest}
 use Rattle.bounds.specs.Ruled.{Ruled}
-use Rattle.bounds.specs.Laws.Meets.{ruled-fit, meets-keeps, permitted-meets, rest-meets, rest-largest, floor-none}
+use Rattle.bounds.specs.Laws.Meets.{meets-keeps, permitted-meets, rest-meets, rest-largest, floor-none}
 use Rattle.promises.specs.Lags.{Largest, Least, NonePermitted}
 use Rattle.periods.specs.Quick.{Sought, Lags, Answers, Quick}
 use Rattle.refusals.specs.Solving.{lastOf, Hopeless}
@@ -30,22 +30,21 @@ use Rattle.refusals.specs.declared.Aim.the-variants as A
 use Rattle.periods.specs.declared.quick.Found.{Found}
 use Rattle.periods.specs.declared.quick.Found.the-variants as F
 
--- ---- how the descent ended
+-- ---- how the descent began and ended
 module _ {keys lower upper : List ℕ} where
-  -- where it begins
-  pub begins : {par : List ℕ} (p : ℕ) → Fit keys lower upper → par ≡ D.none → State keys lower upper p upper par
-  begins p F q = rw q (D.begun F p)
+  pub begins : {e : List ℕ} (p : ℕ) → Fit keys lower upper → e ≡ upper → State keys lower upper p e
+  begins p F q = rw q (begun F p)
 
-  pub settled-at : (c : ℕ) {p r : ℕ} {e par : List ℕ} → Settled keys lower upper p e par r → p ≡ min c 1048575 → r ≡ 0 → Sought keys lower upper (A.At c) e par (F.Lags 0)
+  pub settled-at : (c : ℕ) {p r : ℕ} {e links : List ℕ} → Settled keys lower upper p e links r → p ≡ min c 1048575 → r ≡ 0 → Sought keys lower upper (A.At c) e (F.Lags 0)
   settled-at c S q z = (refl, rw q at (S .rest z))
 
-  pub settled-none : {r : ℕ} {e par : List ℕ} → Settled keys lower upper 1048575 e par r → (r ≡ 0 → ⊥) → Sought keys lower upper A.Least e par F.Nothing
-  settled-none S nz = λ x K. let f = S .none nz in f .1 1048575 x (f .0) K
+  pub settled-none : {r : ℕ} {e links : List ℕ} → Settled keys lower upper 1048575 e links r → (r ≡ 0 → ⊥) → Sought keys lower upper A.Least e F.Nothing
+  settled-none S nz = λ x K. let f = S .stop .none nz in f .1 1048575 x (f .0) K
 
 -- ---- what that says of the sheet
 module _ {s keys lower upper : List ℕ} (R : Ruled s keys lower upper) where
   -- lags at rest are the largest
-  rest-is : {c : ℕ} {e par : List ℕ} → c < 1048576 → AtRest keys lower upper c e par → Largest (coreOf s) c (λ b. lagOf (getD e b 0))
+  rest-is : {c : ℕ} {e : List ℕ} → c < 1048576 → AtRest keys lower upper c e → Largest (coreOf s) c (λ b. lagOf (getD e b 0))
   rest-is h A = record { meets = rest-meets R h A; largest = rest-largest R h A }
 
   -- at a period that is longer than every path, all permitted lags meet it
@@ -55,13 +54,13 @@ module _ {s keys lower upper : List ℕ} (R : Ruled s keys lower upper) where
     largest = λ q M. L .largest q (permitted-meets R 1048575 (omega arith) q (M .permitted));
   }
 
-  at-period : (c : ℕ) {e par : List ℕ} → Dec (c ≤ 1048575) → AtRest keys lower upper (min c 1048575) e par → Largest (coreOf s) c (λ b. lagOf (getD e b 0))
+  at-period : (c : ℕ) {e : List ℕ} → Dec (c ≤ 1048575) → AtRest keys lower upper (min c 1048575) e → Largest (coreOf s) c (λ b. lagOf (getD e b 0))
   at-period c (yes h) A = rest-is (omega arith) (rw (min-eq-left h) at A)
   at-period c (no h) A =
       let e : min c 1048575 ≡ 1048575 = omega arith in
       longer (omega arith) (rest-is (omega arith) (rw e at A))
 
-  least-is : {p : ℕ} {e par : List ℕ} → LeastRest keys lower upper 1048575 p e par → Least (coreOf s) p
+  least-is : {p : ℕ} {e : List ℕ} → LeastRest keys lower upper 1048575 p e → Least (coreOf s) p
   least-is {p} {e} L = record {
     lags = λ b. lagOf (getD e b 0);
     met = rest-meets R (omega (arith, L .within)) (L .rest);
@@ -75,17 +74,17 @@ module _ {s keys lower upper : List ℕ} (R : Ruled s keys lower upper) where
   none-is : ((x : ℕ → ℕ) → Keeps keys lower upper 1048575 x → ⊥) → NonePermitted (coreOf s)
   none-is f r P = f _ (meets-keeps R 1048575 (omega arith) r (permitted-meets R 1048575 (omega arith) r P))
 
-  rest-lags : {c : ℕ} {e par : List ℕ} → AtRest keys lower upper c e par → Lags e
+  rest-lags : {c : ℕ} {e : List ℕ} → AtRest keys lower upper c e → Lags e
   rest-lags A = record { long = A .state .e-long; small = λ b h. omega (arith, A .state .high b h, A .state .fit .high b h) }
 
-  answers-by : (aim : Aim) (e par : List ℕ) (found : Found) → Sought keys lower upper aim e par found → Answers s aim e found
-  answers-by (A.At c) e par (F.Lags value) q = (rest-lags (q .1), at-period c (decLe c 1048575) (q .1), q .0)
-  answers-by A.Least e par (F.Lags value) q = (rest-lags (q .rest), rest-is (omega (arith, q .within)) (q .rest), least-is q)
-  answers-by (A.At c) e par F.Nothing q = tt
-  answers-by A.Least e par F.Nothing q = none-is q
+  answers-by : (aim : Aim) (e : List ℕ) (found : Found) → Sought keys lower upper aim e found → Answers s aim e found
+  answers-by (A.At c) e (F.Lags value) q = (rest-lags (q .1), at-period c (decLe c 1048575) (q .1), q .0)
+  answers-by A.Least e (F.Lags value) q = (rest-lags (q .rest), rest-is (omega (arith, q .within)) (q .rest), least-is q)
+  answers-by (A.At c) e F.Nothing q = tt
+  answers-by A.Least e F.Nothing q = none-is q
 
-  pub quick-is : (aim : Aim) (e par : List ℕ) (found : Found) → Sought keys lower upper aim e par found → Quick s aim e found
-  quick-is aim e par found q = record { answers = answers-by aim e par found q }
+  pub quick-is : (aim : Aim) (e : List ℕ) (found : Found) → Sought keys lower upper aim e found → Quick s aim e found
+  quick-is aim e found q = record { answers = answers-by aim e found q }
 
 -- ---- the answer that was found is written out
 module _ {s e : List ℕ} {n : ℕ} {aim : Aim} {found : Found} (S : SoundSheet s) (n-is : n ≡ blocksIn s) (Q : Quick s aim e found) where

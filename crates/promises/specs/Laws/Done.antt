@@ -2,7 +2,7 @@
 -- Assumes nothing.
 use mathlib.Core.Path.{_≡_, refl, sym, ap, _∙_}
 use mathlib.Core.List.{List}
-use Prim.Native.Nat.{ℕ, _+_, _≤_, _<_}
+use Prim.Native.Nat.{ℕ, _≤_, _<_}
 use native.Mathlib.Omega.{arith}
 use lib.IntN.{ℤ, pos}
 use lib.ListN.{length, getD}
@@ -13,7 +13,7 @@ use Rattle.sheet.specs.Filled.{filled}
 use Rattle.sheet.specs.Rules.{First, answer}
 use Rattle.sheet.specs.Laws.Filled.{length-filled, filled-past, filled-at}
 use Rattle.sheet.specs.Laws.Formed.{formed-core}
-use Rattle.moves.specs.Lags.{lagsIn, movedBy, Permitted, MovedTo, Meets}
+use Rattle.moves.specs.Lags.{lagsIn, movedBy, Meets}
 use Rattle.promises.specs.Lags.{Largest, Least}
 use Rattle.promises.specs.Questions.{lagsOutcome, lagsLast, LagsDone, bestLast}
 use Rattle.promises.specs.Laws.Asked.{lags-done, best-done}

@@ -1,19 +1,19 @@
 -- T3: lags meet a period exactly if they keep all rules; from the table's promise alone.
 -- Assumes nothing.
-use mathlib.Core.Path.{_≡_, refl, sym, ap, _∙_}
+use mathlib.Core.Path.{_≡_}
 use mathlib.Core.Logic.{_↔_}
 use mathlib.Core.List.{List}
-use Prim.Native.Nat.{ℕ, _+_, _≤_, _<_}
+use Prim.Native.Nat.{ℕ, _≤_, _<_}
 use native.Mathlib.Omega.{arith}
 use native.Mathlib.Decide.{decLe, ℕ-discrete}
 use lib.IntN.{ℤ, pos, _-ℤ_}
 use lib.Signed.{_≤ℤ_}
 use Rattle.sheet.specs.Core.{Core}
-use Rattle.sheet.specs.Laws.Integer.{up, down, minus, le-parts, parts-le}
+use Rattle.sheet.specs.Laws.Integer.{up, minus, le-parts, parts-le}
 use Rattle.paths.specs.Path.{Joins, registersOn, delayOn}
 use Rattle.paths.specs.Table.{Best, Entry, best, none}
 use Rattle.paths.specs.Laws.Path.{joins-start-lt, joins-end-lt}
-use Rattle.moves.specs.Lags.{movedBy, Permitted, MovedTo, Meets}
+use Rattle.moves.specs.Lags.{movedBy, MovedTo, Meets}
 use Rattle.moves.specs.Laws.Lags.{telescope}
 use Rattle.moves.specs.Laws.Lattice.{moved-to}
 use Rattle.promises.specs.Rules.{Keeps}

@@ -1,5 +1,4 @@
 -- Lags at a period go on from the largest permitted lags; the least period never comes here.
-use native.Mathlib.Omega.{arith}
 use mathlib.Core.Path.{subst}
 use Rattle.refusals.specs.Solving.{Hopeless}
 use Rattle.refusals.specs.Laws.Solving.{hopeless-rest}

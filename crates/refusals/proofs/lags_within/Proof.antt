@@ -1,5 +1,4 @@
 -- The solver goes on from the largest permitted lags with the period's path rules.
-use native.Mathlib.Omega.{arith}
 use Rattle.refusals.specs.Laws.Solving.{table-room, table-written, goes-on, later-refuses, later-writes, later-done}
 use borrow.Author.Needs.{needs}
 use Rattle.refusals.proofs.lags_within.Statement.{statement}

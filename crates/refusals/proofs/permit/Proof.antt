@@ -1,5 +1,4 @@
 -- The lists are loaded, then the solver is run without path rules.
-use native.Mathlib.Omega.{arith}
 use Rattle.refusals.specs.Laws.Solving.{begins}
 use borrow.Author.Needs.{needs}
 use Rattle.refusals.proofs.permit.Statement.{statement}

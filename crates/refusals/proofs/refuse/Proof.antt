@@ -1,5 +1,4 @@
 -- The lists are new.
-use native.Mathlib.Omega.{arith}
 use mathlib.Core.Path.{refl}
 use Rattle.refusals.specs.Laws.Load.{new-room}
 use borrow.Author.Needs.{needs}

@@ -1,5 +1,4 @@
 -- Permitted lags first, then those that meet the period.
-use native.Mathlib.Omega.{arith}
 use Rattle.refusals.specs.Laws.Solving.{first-refuses, first-rests, solved-rests}
 use borrow.Author.Needs.{needs}
 use Rattle.refusals.proofs.refuse_held.Statement.{statement}

@@ -1,6 +1,6 @@
 -- The solver's numbers and the lags that they stand for: its solutions are the lags that keep all rules, and where it rests they are the largest.
 -- Assumes nothing.
-use mathlib.Core.Path.{_≡_, refl, sym, ap, _∙_, subst}
+use mathlib.Core.Path.{_≡_, refl, ap, _∙_}
 use mathlib.Core.List.{List}
 use Prim.Native.Nat.{ℕ, _+_, _*_, _≤_, _<_}
 use native.Mathlib.Omega.{arith}
@@ -8,18 +8,17 @@ use lib.IntN.{ℤ, pos, _-ℤ_}
 use lib.Signed.{_≤ℤ_}
 use lib.ListN.{getD}
 use Rattle.sheet.specs.Lag.{excess, lagOf}
-use Rattle.sheet.specs.Core.{Core, blocksIn, wiresIn, registersIn, shapeOf, coreOf}
+use Rattle.sheet.specs.Core.{blocksIn, wiresIn, registersIn, shapeOf, coreOf}
 use Rattle.sheet.specs.Sheet.{Formed}
 use Rattle.sheet.specs.Laws.Integer.{up, down, minus, sub-parts, le-parts, parts-le}
-use Rattle.sheet.specs.Laws.Lag.{excess-parts}
-use Rattle.sheet.specs.Laws.Sheet.{lower-fits, upper-fits}
+use Rattle.sheet.specs.Laws.Sheet.{lower-parts, upper-parts}
 use Rattle.sheet.specs.Laws.Formed.{formed-core}
 use Rattle.paths.specs.Table.{Best, Entry, Table, best, none}
 use Rattle.paths.specs.Laws.Path.{joins-start-lt, joins-end-lt}
 use Rattle.tables.specs.Laws.Entry.{entry-unique}
-use Rattle.moves.specs.Lags.{movedBy, InRange, Fits, Permitted, MovedTo, Meets}
+use Rattle.moves.specs.Lags.{movedBy, InRange, Fits, Permitted, Meets}
 use Rattle.moves.specs.Laws.Lattice.{value}
-use Rattle.moves.specs.Laws.Written.{lag-fits}
+use Rattle.moves.specs.Laws.Written as L
 use Rattle.solver.specs.System.{Given, Rule, Rule.path, Rule.wire, Rule.ceiling, Solution, tabled}
 use Rattle.solver.specs.State.{State, AllHold}
 use Rattle.solver.specs.Laws.Begun.{rest-solves}
@@ -46,12 +45,12 @@ module _ {s : List ℕ} {g : Given} (S : Stands s g) where
   low-parts : (b : ℕ) → b < g .n → getD (g .lower) b 0 + down (coreOf s .lower b) ≡ up (coreOf s .lower b) + 32768
   low-parts b h =
       let k : b < blocksIn s = omega (arith, S .n-is) in
-      omega (arith, S .lower-is b k, excess-parts (coreOf s .lower b) (lower-fits b _ _ _ (formed .block b k)))
+      omega (arith, S .lower-is b k, lower-parts b _ _ _ (formed .block b k))
 
   high-parts : (b : ℕ) → b < g .n → getD (g .upper) b 0 + down (coreOf s .upper b) ≡ up (coreOf s .upper b) + 32768
   high-parts b h =
       let k : b < blocksIn s = omega (arith, S .n-is) in
-      omega (arith, S .upper-is b k, excess-parts (coreOf s .upper b) (upper-fits b _ _ _ (formed .block b k)))
+      omega (arith, S .upper-is b k, upper-parts b _ _ _ (formed .block b k))
 
   -- ---- lags that keep all rules are a solution
   module _ (r : ℕ → ℤ) (K : Keeps (coreOf s) (g .period) r) where
@@ -59,7 +58,7 @@ module _ {s : List ℕ} {g : Given} (S : Stands s g) where
     lag-parts : (b : ℕ) → b < g .n → excess (r b) + down (r b) ≡ up (r b) + 32768
     lag-parts b h =
         let k : b < blocksIn s = omega (arith, S .n-is) in
-        excess-parts (r b) (lag-fits s (S .sound .formed) r b k (K .permitted .in-range b k))
+        L.lag-parts s (S .sound .formed) r b k (K .permitted .in-range b k)
 
     kept-path : (a b W D : ℕ) → a < g .n → b < g .n → Entry (shapeOf s) (registersIn s) a b W D → g .period < D → excess (r a) + 32768 ≤ excess (r b) + (W + 32767)
     kept-path a b W D ha hb (best e) l =

@@ -5,14 +5,13 @@ use mathlib.Core.List.{List}
 use Prim.Native.Nat.{ℕ, _+_, _*_, _≤_, _<_}
 use native.Mathlib.Omega.{arith}
 use native.Mathlib.Nat.{mul-le-mul}
-use lib.IntN.{ℤ, pos}
+use lib.IntN.{ℤ}
 use lib.ListN.{length, getD}
 use Rattle.sheet.specs.Lag.{lagOf}
 use Rattle.sheet.specs.Core.{blocksIn, wiresIn, registersIn, shapeOf, coreOf}
 use Rattle.sheet.specs.Filled.{filled}
 use Rattle.sheet.specs.Sheet.{FormedSheet}
 use Rattle.sheet.specs.Rules.{First, answer}
-use Rattle.sheet.specs.Laws.Filled.{length-filled, filled-past, filled-at}
 use Rattle.sheet.specs.Laws.Formed.{formed-core, formed-numbers}
 use Rattle.sheet.specs.declared.answer.Answer.{Answer}
 use Rattle.sheet.specs.declared.answer.Stage.{Stage}
@@ -21,7 +20,7 @@ use Rattle.paths.specs.Table.{Table, LoopAt}
 use Rattle.tables.specs.Row.{Rows}
 use Rattle.paths.specs.Questions.{SoundSheet}
 use Rattle.paths.specs.Laws.Parts.{square-small}
-use Rattle.moves.specs.Lags.{lagsIn, Permitted}
+use Rattle.moves.specs.Lags.{Permitted}
 use Rattle.solver.specs.System.{Given, given, tabled, Within}
 use Rattle.solver.specs.State.{State, Lists, Stuck, AllHold, Settled}
 use Rattle.solver.specs.Laws.Begun.{begun, blank-quick, state-stays}
@@ -33,7 +32,7 @@ use Rattle.witness.specs.Walked.{Halted}
 use Rattle.promises.specs.Lags.{Largest, NonePermitted}
 use Rattle.refusals.specs.Load.{Held}
 use Rattle.refusals.specs.Solving.{Solving, Resting, Ran, Solved, lastOf}
-use Rattle.promises.specs.Questions.{LagsOutcome, lagsOutcome, lagsLast, LagsDone, bestLast}
+use Rattle.promises.specs.Questions.{lagsOutcome, lagsLast}
 use Rattle.refusals.specs.declared.Aim.{Aim}
 use Rattle.refusals.specs.declared.Aim.the-variants as A
 use Rattle.refusals.specs.Laws.Load.{stands-fits}

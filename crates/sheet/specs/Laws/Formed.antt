@@ -1,6 +1,5 @@
 -- What the refusals 1, 2, 3, 5 and 6 leave is a formed sheet, and its core is formed; each refusal gives one answer.
 -- Assumes nothing.
-use mathlib.Core.Path.{_≡_}
 use mathlib.Core.Logic.{inl, inr}
 use mathlib.Core.List.{List}
 use Prim.Native.Nat.{ℕ, _+_, _*_, _<_, _≤_}
@@ -13,7 +12,7 @@ use Rattle.sheet.specs.Bytes.{u32At}
 use Rattle.sheet.specs.Lag.{excess}
 use Rattle.sheet.specs.Core.{Core, coreOf, blocksIn, wiresIn, delayIn, lowerIn, upperIn, fromIn, toIn, registersIn, spareIn}
 use Rattle.sheet.specs.Rules.{None, Exact, answer}
-use Rattle.sheet.specs.Sheet.{LagLimits, BlockRule, WireRule, BlockGood, WireGood, frameRules, entryRules, Offsets, Framed, FormedSheet, Formed}
+use Rattle.sheet.specs.Sheet.{BlockRule, WireRule, frameRules, entryRules, Offsets, Framed, FormedSheet, Formed}
 use Rattle.sheet.specs.Reads.{BlockNumbers}
 use Rattle.sheet.specs.Laws.Integer.{up, down, le-parts, parts-le}
 use Rattle.sheet.specs.Laws.Rules.{NonZero, refusal-exact, place-exact, refusal-nonzero, place-nonzero}

@@ -1,7 +1,7 @@
 -- Integers as differences of two naturals, `up z - down z`: a law on integers becomes one that `omega` proves.
 -- A fact on integers goes in by `plus`, `minus`, `le-parts`, and comes out by `parts-le`, `parts-eq`.
 -- Assumes nothing.
-use mathlib.Core.Path.{_≡_, refl, sym, ap, _∙_}
+use mathlib.Core.Path.{_≡_, refl, ap}
 use Prim.Native.Nat.{ℕ, zero, suc, _+_, _-_, _<_, _≤_}
 use native.Mathlib.Omega.{arith}
 use native.Mathlib.Decide.{decLt}

@@ -1,14 +1,14 @@
 -- Lags and their excess numbers say the same: round trip, order, sums, rules, and the 16 bits of the sheet.
 -- A lag is an i16: `mag z < 32768`. Assumes nothing.
-use mathlib.Core.Path.{_≡_, refl, sym, ap, _∙_}
+use mathlib.Core.Path.{_≡_, ap, _∙_}
 use mathlib.Core.Logic.{_↔_}
-use Prim.Native.Nat.{ℕ, zero, suc, _+_, _-_, _%_, _<_, _≤_}
+use Prim.Native.Nat.{ℕ, suc, _+_, _-_, _%_, _<_, _≤_}
 use native.Mathlib.Omega.{arith}
 use native.Mathlib.Decide.{decLe, decLt}
-use lib.IntN.{ℤ, pos, negsuc, subℕ, _+ℤ_, _-ℤ_}
+use lib.IntN.{ℤ, pos, negsuc, _+ℤ_, _-ℤ_}
 use lib.Signed.{mag, _≤ℤ_}
 use mir.Syntax.{w16}
-use mir.Val.{toZ, ofZ}
+use mir.Val.{toZ}
 use mir.Facts.{toZ-pos, toZ-neg}
 use Rattle.sheet.specs.Lag.{excess, lagOf}
 use Rattle.sheet.specs.Laws.Integer.{up, down, sub-le, sub-lt, sub-parts, plus, minus, le-parts, parts-le, parts-eq}

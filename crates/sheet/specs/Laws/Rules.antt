@@ -2,12 +2,12 @@
 -- Assumes nothing.
 use mathlib.Core.Path.{_≡_, refl, sym, ap, _∙_, subst}
 use mathlib.Core.Logic.{_⊎_, inl, inr}
-use mathlib.Core.List.{List, [], _∷_, _++_, map}
+use mathlib.Core.List.{List, [], _∷_, _++_}
 use mathlib.Core.Bool.{Bool, true, false}
 use Prim.Native.Nat.{ℕ, _<_, _≤_}
 use native.Mathlib.Omega.{arith}
 use native.Mathlib.Decide.{decLt}
-use Rattle.sheet.specs.Rules.{Rule, First, None, Tight, Exact, kept, stage, FirstOf, firstPlace, Staged, Told}
+use Rattle.sheet.specs.Rules.{Rule, First, None, Tight, Exact, stage, FirstOf, firstPlace, Staged, Told}
 use Rattle.sheet.specs.declared.answer.Answer.{Answer}
 use Rattle.sheet.specs.declared.answer.Stage.{Stage}
 use Rattle.sheet.specs.declared.answer.Stage.the-variants.{Pass, Refuse}

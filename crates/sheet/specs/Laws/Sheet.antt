@@ -1,25 +1,23 @@
 -- A sheet's rules on integers and on excess numbers are the same; what the rules leave is a formed sheet.
 -- Assumes nothing.
-use mathlib.Core.Path.{_≡_, refl, sym, ap, _∙_, subst}
+use mathlib.Core.Path.{_≡_, refl, ap, _∙_, subst}
 use mathlib.Core.Logic.{_⊎_, inl, inr}
-use mathlib.Core.List.{List, [], _∷_}
-use Prim.Native.Nat.{ℕ, _+_, _*_, _-_, _%_, _<_, _≤_}
+use mathlib.Core.List.{List}
+use Prim.Native.Nat.{ℕ, _+_, _-_, _%_, _<_, _≤_}
 use native.Mathlib.Omega.{arith}
-use native.Mathlib.Decide.{decLe, decLt, ℕ-discrete}
 use lib.ListN.{length}
 use lib.IntN.{ℤ, pos, negsuc, _-ℤ_}
-use lib.Signed.{mag, _≤ℤ_}
+use lib.Signed.{mag}
 use mir.Syntax.{w16}
 use mir.Val.{toZ}
 use Rattle.sheet.specs.Lag.{excess}
-use Rattle.sheet.specs.Bytes.{Bytes, u16At}
-use Rattle.sheet.specs.Core.{coreOf, wireAt, blocksIn, wiresIn, delayIn, lowerIn, upperIn, fromIn, toIn, registersIn, spareIn}
-use Rattle.sheet.specs.Rules.{First, None, FirstOf, firstPlace, answer}
-use Rattle.sheet.specs.Sheet.{LagLimits, BlockRule, WireRule, BlockGood, WireGood, frameRules, entryRules, Offsets, Framed, FormedSheet, Formed}
+use Rattle.sheet.specs.Bytes.{u16At}
+use Rattle.sheet.specs.Core.{wireAt, blocksIn, wiresIn, delayIn, lowerIn, upperIn, fromIn, toIn, registersIn, spareIn}
+use Rattle.sheet.specs.Rules.{First, None, FirstOf, answer}
+use Rattle.sheet.specs.Sheet.{LagLimits, BlockRule, BlockGood, WireGood, frameRules, entryRules, Offsets, Framed}
 use Rattle.sheet.specs.Reads.{ExcessIs, BlockNumbers, BlockOf, BlockGiven, BlockIs, WireIs, WireOf, WireGiven, FrameGiven}
 use Rattle.sheet.specs.Laws.Integer.{up, down, le-parts, parts-le, parts-eq, minus}
 use Rattle.sheet.specs.Laws.Lag.{excess-parts, mag-bits, excess-bits}
-use Rattle.sheet.specs.Laws.Bytes.{u16-below}
 use Rattle.sheet.specs.Laws.Rules.{place-found, place-none}
 use Rattle.sheet.specs.declared.block.BlockRead.{BlockRead}
 use Rattle.sheet.specs.declared.block.BlockRead.the-variants as B
@@ -41,10 +39,17 @@ module _ (b d : ℕ) (l u : ℤ) where
   pub upper-fits : BlockRule b d l u → mag u < 32768
   upper-fits r = limits-fit u (r .upper-limits)
 
+  -- both limits and their excess numbers, without subtraction
+  pub lower-parts : BlockRule b d l u → excess l + down l ≡ up l + 32768
+  lower-parts r = excess-parts l (lower-fits r)
+
+  pub upper-parts : BlockRule b d l u → excess u + down u ≡ up u + 32768
+  upper-parts r = excess-parts u (upper-fits r)
+
   pub block-numbers : BlockRule b d l u → BlockNumbers b d (excess l) (excess u)
   block-numbers r =
-      let el = excess-parts l (lower-fits r) in
-      let eu = excess-parts u (upper-fits r) in
+      let el = lower-parts r in
+      let eu = upper-parts r in
       record {
         small = r .small;
         lowest = omega (arith, le-parts (negsuc 999) l (r .lower-limits .0));

@@ -1,12 +1,12 @@
 -- Where the solver begins, every block at its upper limit; and a state without path rules is one with the rules of a path table.
 -- Assumes nothing.
-use Prim.Native.Nat.{ℕ, zero, suc, _+_, _*_, _<_, _≤_}
-use mathlib.Core.Path.{_≡_, refl, ap, sym, _∙_}
+use Prim.Native.Nat.{ℕ, _+_, _*_, _<_, _≤_}
+use mathlib.Core.Path.{_≡_, refl, ap}
 use mathlib.Core.List.{List}
 use native.Mathlib.Omega.{arith}
 use native.Mathlib.Decide.{ℕ-discrete, decLt}
-use lib.ListN.{length, getD, replicate, getD-replicate, length-replicate, List·getD-eq-default}
-use Rattle.solver.specs.System.{Given, Rule, Rule.path, Rule.wire, Rule.ceiling, Link, Link.rule, Link.upper, Fit, Solution, Holds, tabled, Within}
+use lib.ListN.{getD, replicate, getD-replicate, length-replicate, List·getD-eq-default}
+use Rattle.solver.specs.System.{Given, Rule, Rule.path, Rule.wire, Rule.ceiling, Link, Link.rule, Link.upper, Fit, Solution, tabled, Within}
 use Rattle.solver.specs.Walk.{Depth, Rooted}
 use Rattle.solver.specs.State.{State, AllHold}
 

@@ -1,14 +1,14 @@
 -- The solver's state is kept where a broken rule lowers a block.
 -- Assumes nothing.
-use Prim.Native.Nat.{ℕ, zero, suc, _+_, _*_, _<_, _≤_}
-use mathlib.Core.Path.{_≡_, refl, ap, sym, _∙_}
+use Prim.Native.Nat.{ℕ, _+_, _<_, _≤_}
+use mathlib.Core.Path.{_≡_, ap, _∙_}
 use mathlib.Core.List.{List}
 use native.Mathlib.Omega.{arith}
 use native.Mathlib.Decide.{ℕ-discrete}
-use lib.ListN.{length, getD, set, length-set}
+use lib.ListN.{getD, set, length-set}
 use lib.Seq.{getD-set-same, getD-set-other}
-use Rattle.solver.specs.System.{Given, Rule, Rule.path, Rule.wire, Rule.ceiling, Link, Link.rule, Link.upper, Fit, Solution, Holds}
-use Rattle.solver.specs.Walk.{Depth, Rooted, Miss}
+use Rattle.solver.specs.System.{Given, Rule, Rule.path, Rule.wire, Rule.ceiling, Link, Link.rule, Fit, Solution}
+use Rattle.solver.specs.Walk.{Miss}
 use Rattle.solver.specs.State.{State}
 use Rattle.sheet.specs.Laws.Sum.{sum, sum-set}
 use Rattle.solver.specs.Laws.Walk.{rooted-set}

@@ -1,13 +1,13 @@
 -- What one rule's step shows, at each of its ways out; and sweeps, step by step.
 -- Assumes nothing.
-use Prim.Native.Nat.{ℕ, zero, suc, _+_, _-_, _*_, _<_, _≤_}
-use mathlib.Core.Path.{_≡_, refl, ap, sym, subst, _∙_}
+use Prim.Native.Nat.{ℕ, _+_, _-_, _<_, _≤_}
+use mathlib.Core.Path.{_≡_, refl, ap, _∙_}
 use mathlib.Core.List.{List}
 use mathlib.Core.Logic.{inl, inr}
 use native.Mathlib.Omega.{arith}
 use native.Mathlib.Decide.{ℕ-discrete}
 use lib.ListN.{length, getD, set}
-use Rattle.solver.specs.System.{Given, Rule, Fit, Solution, Holds}
+use Rattle.solver.specs.System.{Given, Holds}
 use Rattle.solver.specs.Walk.{Rooted, Hit, Miss}
 use Rattle.solver.specs.State.{State, Stuck, Relaxed, Swept, Ready}
 use Rattle.sheet.specs.Laws.Sum.{sum}

@@ -1,19 +1,18 @@
 -- What the sweeps over wires, rows and the path table need and show; and the rounds.
 -- Assumes nothing.
-use Prim.Native.Nat.{ℕ, zero, suc, _+_, _-_, _*_, _<_, _≤_}
-use mathlib.Core.Path.{_≡_, refl, ap, sym, subst, _∙_}
+use Prim.Native.Nat.{ℕ, _+_, _-_, _*_, _<_, _≤_}
+use mathlib.Core.Path.{_≡_, refl, ap, subst, _∙_}
 use mathlib.Core.List.{List}
-use mathlib.Core.Logic.{inl, inr}
 use native.Mathlib.Omega.{arith}
 use native.Mathlib.Decide.{decLt}
 use borrow.Author.Count.{below-more}
-use lib.ListN.{length, getD, set, List·getD-eq-default}
+use lib.ListN.{length, getD, List·getD-eq-default}
 use Rattle.paths.specs.Laws.Parts.{row-before, square-small}
-use Rattle.solver.specs.System.{Given, Rule, Rule.path, Rule.wire, Rule.ceiling, Fit, Solution, Holds, Within}
+use Rattle.solver.specs.System.{Given, Rule.path, Rule.wire, Rule.ceiling, Fit, Holds, Within}
 use Rattle.solver.specs.declared.Turn.{Turn}
 use Rattle.solver.specs.declared.Turn.the-variants as T
 use Rattle.solver.specs.Laws.Step.{sweep-start, sweep-step, sweep-both, sweep-says}
-use Rattle.solver.specs.State.{State, Stuck, Relaxed, Swept, Turned, Ready, Wires, WiresHold, Paths, PathHolds, RowHolds, PathsHold, AllHold, Lists}
+use Rattle.solver.specs.State.{State, Relaxed, Swept, Turned, Ready, Wires, WiresHold, Paths, PathHolds, RowHolds, PathsHold, AllHold, Lists}
 
 -- ---- wires
 module _ {g : Given} {lower from to bounds : List ℕ} {n m base : ℕ} (X : Wires g lower from to bounds n m base) where

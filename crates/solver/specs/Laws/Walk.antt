@@ -10,7 +10,7 @@ use borrow.Author.Count.{below-more}
 use native.Mathlib.Decide.{ℕ-discrete}
 use lib.ListN.{length, getD, set, length-set, replicate, getD-replicate, length-replicate}
 use lib.Seq.{getD-set-same, getD-set-other}
-use Rattle.solver.specs.Walk.{Depth, Rooted, iter, Hit, Miss, Met}
+use Rattle.solver.specs.Walk.{Depth, Rooted, iter, Met}
 use Rattle.sheet.specs.Laws.Sum.{sum, sum-set}
 
 pub iter-in : (n : ℕ) (par : List ℕ) → Rooted n par → (v : ℕ) → v < n → (k : ℕ) → iter par k v < n

@@ -1,5 +1,4 @@
 -- The header's refusals come first.
-use native.Mathlib.Omega.{arith}
 use Rattle.sheet.specs.Laws.Sheet.{frame-read, frame-refused}
 use Rattle.tables.specs.Laws.Questions.{table-refused, table-rest}
 use borrow.Author.Needs.{needs}

@@ -1,6 +1,5 @@
 -- Short lists first, then the sheet's own refusals, else the table.
 use native.Mathlib.Omega.{arith}
-use Prim.Native.Nat.{_*_}
 use Rattle.paths.specs.Laws.Parts.{square-small}
 use Rattle.sheet.specs.Laws.Rules.{refused, passed}
 use Rattle.tables.specs.Laws.Questions.{first-short, second-short, table-unsound, table-sound}

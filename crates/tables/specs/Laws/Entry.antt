@@ -1,6 +1,6 @@
 -- The table's entries: they are unique, they exist, a best path is short and is completed wire by wire from its end.
 -- Assumes nothing.
-use mathlib.Core.Path.{_≡_, refl, sym, ap, _∙_, subst}
+use mathlib.Core.Path.{_≡_, refl, sym, ap, _∙_}
 use mathlib.Core.Bool.{Bool, true, false, true≢false}
 use mathlib.Core.Logic.{_⊎_, inl, inr}
 use mathlib.Core.List.{List, [], _∷_, _++_, append-assoc}
@@ -8,15 +8,16 @@ use Prim.Native.Nat.{ℕ, zero, suc, _+_, _*_, _-_, _≤_, _<_}
 use native.Mathlib.Decide.{ℕ-discrete, decLt}
 use native.Mathlib.Omega.{arith}
 use native.Mathlib.Numerals.{add-one}
-use lib.ListN.{length, getD, set, replicate, length-replicate, length-append}
+use lib.ListN.{length, getD, set, replicate, length-replicate}
 use Rattle.sheet.specs.Core.{Shape}
 use Rattle.sheet.specs.Filled.{filled}
 use Rattle.paths.specs.Path.{Passes, Joins, registersOn, delayOn, endOf}
 use Rattle.paths.specs.Lists.{held}
-use Rattle.paths.specs.Table.{LoopAt, Way, Best, Entry, best, none}
-use Rattle.tables.specs.Row.{baseW, baseD, offerW, offerD, Row, Relaxed, RowRight}
-use Rattle.paths.specs.Laws.Path.{passes-all, joins-left, joins-right, joins-append, joins-start-lt, joins-end, joins-ends, joins-snoc, between-passes, registers-append, registers-snoc, delay-snoc, Last, nil, snoc, last}
-use Rattle.paths.specs.Laws.Pigeons.{NotIn, NoDup, AllBelow, pigeons}
+use Rattle.paths.specs.Table.{LoopAt, Best, Entry, best, none}
+use Rattle.tables.specs.Back.{Completed}
+use Rattle.tables.specs.Row.{baseW, offerW, offerD, Row, Relaxed}
+use Rattle.paths.specs.Laws.Path.{passes-all, joins-left, joins-right, joins-start-lt, joins-ends, joins-snoc, between-passes, registers-append, registers-snoc, delay-snoc, Last, nil, snoc, last}
+use Rattle.paths.specs.Laws.Pigeons.{NotIn, NoDup, pigeons}
 use Rattle.tables.specs.Laws.Ahead.{Ahead, ahead-or}
 use Rattle.paths.specs.Laws.Simple.{passed, passed-below, length-passed, Leads, leads, Loop, simple-or-loop, cut-joins, cut-fewer, cut}
 use Rattle.paths.specs.Laws.Way.{Limits}
@@ -112,16 +113,6 @@ module _ (s : Shape) (w : ℕ → ℕ) where
               omega (arith, length-passed s ws, pigeons (s .n) (u ∷ passed s ws) (p, d) (joins-start-lt s u ws v h, passed-below s u ws v h))
 
     -- ---- the backward step: some wire into v completes what stands at its start, the bare start block or an entry
-    pub record Completes (u v W D : ℕ) : Type 0 where
-      pub wire : ℕ
-      pub registers : ℕ
-      pub delay : ℕ
-      pub wire-lt : wire < s .m
-      pub end : s .to wire ≡ v
-      pub registers-is : W ≡ registers + w wire
-      pub delay-is : D ≡ delay + s .delay v
-      pub base : ((s .from wire ≡ u) × (registers ≡ 0) × (delay ≡ s .delay u)) ⊎ ((s .from wire ≡ u → ⊥) × Best s w u (s .from wire) registers delay)
-
     module _ (u v W D : ℕ) (b : Best s w u v W D) (xs : List ℕ) (j : ℕ) (h : Joins s u (xs ++ (j ∷ [])) v)
         (W-is : registersOn w (xs ++ (j ∷ [])) ≡ W) (D-is : delayOn s u (xs ++ (j ∷ [])) ≡ D) where
       v-lt : s .to j < s .n
@@ -174,11 +165,10 @@ module _ (s : Shape) (w : ℕ → ℕ) where
                 );
           }
 
-      completes : Completes u v W D
+      completes : Completed s w u v W D j
       completes =
           let r = joins-ends s u xs j v h in
           record {
-            wire = j;
             registers = registersOn w xs;
             delay = delayOn s u xs;
             wire-lt = r .wire;
@@ -191,12 +181,12 @@ module _ (s : Shape) (w : ℕ → ℕ) where
             ];
           }
 
-    pub backward : (u v W D : ℕ) → Best s w u v W D → ((v ≡ u) × (W ≡ 0) × (D ≡ s .delay u) → ⊥) → Completes u v W D
+    pub backward : (u v W D : ℕ) → Best s w u v W D → ((v ≡ u) × (W ≡ 0) × (D ≡ s .delay u) → ⊥) → (j : ℕ) × Completed s w u v W D j
     backward u v W D b far = go (b .way .wires) (b .way .joins) (b .way .registers-is) (b .way .delay-is) (last (b .way .wires))
       where
-        go : (ws : List ℕ) → Joins s u ws v → registersOn w ws ≡ W → delayOn s u ws ≡ D → Last ws → Completes u v W D
+        go : (ws : List ℕ) → Joins s u ws v → registersOn w ws ≡ W → delayOn s u ws ≡ D → Last ws → (j : ℕ) × Completed s w u v W D j
         go ws h p q nil = absurd (far (sym (h .1), sym p, sym q))
-        go ws h p q (snoc xs j) = completes u v W D b xs j h p q
+        go ws h p q (snoc xs j) = (j, completes u v W D b xs j h p q)
 
 -- ---- every pair of a sound core has an entry
 module _ (s : Shape) (w : ℕ → ℕ) (g : Limits s w) (n-le : s .n ≤ 64) (m-le : s .m ≤ 256) (free : (b : ℕ) → LoopAt s w b → ⊥) (u : ℕ) (u-lt : u < s .n) where

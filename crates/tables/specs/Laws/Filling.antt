@@ -1,20 +1,19 @@
 -- A row from its clearing to its end: n rounds, or fewer where one changes nothing, give the table's entries.
 -- Assumes nothing.
-use mathlib.Core.Path.{_≡_, refl, sym, ap, _∙_, subst}
+use mathlib.Core.Path.{_≡_, refl, ap, _∙_, subst}
 use mathlib.Core.Logic.{_⊎_, inl, inr}
 use mathlib.Core.List.{List}
-use Prim.Native.Nat.{ℕ, zero, suc, _+_, _*_, _-_, _≤_, _<_}
-use native.Mathlib.Decide.{ℕ-discrete}
+use Prim.Native.Nat.{ℕ, _+_, _*_, _-_, _≤_, _<_}
 use native.Mathlib.Omega.{arith}
 use lib.ListN.{length, getD, set, length-set}
 use lib.Seq.{getD-set-same}
 use Rattle.sheet.specs.Core.{Shape}
 use Rattle.sheet.specs.Filled.{filled}
 use Rattle.sheet.specs.Laws.Filled.{length-filled, filled-at}
-use Rattle.paths.specs.Lists.{held, listShape, Wires, Delays}
-use Rattle.paths.specs.Table.{LoopAt, Way, Entry}
+use Rattle.paths.specs.Lists.{held}
+use Rattle.paths.specs.Table.{LoopAt, Way}
 use Rattle.tables.specs.Row.{Row, Round, Rounded, RowRight}
-use Rattle.tables.specs.Laws.Ahead.{Ahead, level, ahead-refl}
+use Rattle.tables.specs.Laws.Ahead.{Ahead, level}
 use Rattle.tables.specs.Laws.Rows.{Covers, covers-start, covers-next, covers-still, covered-entry}
 use Rattle.paths.specs.Laws.Way.{way-start}
 use Rattle.paths.specs.Laws.Way.{Limits}

@@ -1,10 +1,10 @@
 -- Keys: decoding goes through stores, the lower key is the pair ahead, and what trying a wire on keys comes to.
 -- Assumes nothing.
 use mathlib.Core.Path.{_≡_, refl, sym, ap, _∙_}
-use mathlib.Core.Bool.{Bool, true, false}
+use mathlib.Core.Bool.{true, false}
 use mathlib.Core.Logic.{_⊎_, inl, inr}
 use mathlib.Core.List.{List, [], _∷_}
-use Prim.Native.Nat.{ℕ, zero, suc, _+_, _*_, _-_, _/_, _%_, _≤_, _<_, min}
+use Prim.Native.Nat.{ℕ, zero, suc, _+_, _*_, _-_, _%_, _≤_, _<_, min}
 use native.Mathlib.Decide.{ℕ-discrete, decLt}
 use native.Mathlib.Omega.{arith}
 use borrow.Author.Tests.{lt-ltb, le-ltb}
@@ -15,7 +15,7 @@ use Rattle.sheet.specs.Core.{Shape}
 use Rattle.sheet.specs.Filled.{filled}
 use Rattle.sheet.specs.Laws.Filled.{length-filled, filled-at}
 use Rattle.paths.specs.Lists.{held, listShape, Wires, Delays}
-use Rattle.tables.specs.Row.{baseOf, baseW, baseD, offerW, offerD, Row, Relaxed, RowRight}
+use Rattle.tables.specs.Row.{baseOf, baseW, baseD, offerW, offerD, Row, RowRight}
 use Rattle.tables.specs.Keys.{keyW, keyD, decoded, rowW, rowD, Whole, costAt, Costs, Tried, KeysRight}
 use Rattle.tables.specs.Laws.Ahead.{Ahead, fewer, level}
 use Rattle.tables.specs.Laws.Rows.{base-start, base-other, base-few, base-small}

@@ -1,6 +1,6 @@
 -- How the question path table ends, and that two outcomes of it are one.
 -- Assumes nothing.
-use mathlib.Core.Path.{_≡_, refl, sym, ap, _∙_, subst}
+use mathlib.Core.Path.{_≡_, refl, sym, ap, _∙_}
 use mathlib.Core.Logic.{inl, inr}
 use mathlib.Core.List.{List, [], _∷_, _++_}
 use Prim.Native.Nat.{ℕ, _+_, _*_, _/_, _%_, _≤_, _<_}
@@ -9,19 +9,17 @@ use native.Mathlib.Nat.{div-add-mod', div-lt-iff-lt-mul, mod-lt}
 use native.Mathlib.Decide.{ℕ-discrete, decLt}
 use lib.Seq.{ext-getD}
 use lib.ListN.{length, getD}
-use Rattle.sheet.specs.Core.{coreOf, blocksIn, registersIn, shapeOf}
-use Rattle.sheet.specs.Rules.{Rule, First, None, Exact, answer, refusal, stage}
-use Rattle.sheet.specs.Sheet.{Framed, FormedSheet, frameRules, entryRules}
-use Rattle.sheet.specs.Laws.Rules.{agree, tight-both, first-left, first-right, none-left, none-right, ends, goes-on, stage-exact, refusal-exact, place-exact, none-both, NonZero, nonzero-both, past, past-stage, refusal-nonzero, place-nonzero}
+use Rattle.sheet.specs.Core.{blocksIn, registersIn, shapeOf}
+use Rattle.sheet.specs.Rules.{Rule, First, None, answer, stage}
+use Rattle.sheet.specs.Sheet.{Framed, frameRules}
+use Rattle.sheet.specs.Laws.Rules.{agree, tight-both, ends, goes-on, stage-exact, refusal-exact, past, past-stage}
 use Rattle.sheet.specs.Laws.Sheet.{framed-none}
-use Rattle.sheet.specs.Laws.Formed.{none-formed, none-framed, formed-none, formed-core, frame-exact, entry-exact, frame-nonzero, entry-nonzero}
+use Rattle.sheet.specs.Laws.Formed.{frame-exact, frame-nonzero}
 use Rattle.sheet.specs.declared.answer.Answer.{Answer}
 use Rattle.paths.specs.Laws.Questions.{sound-exact, sound-nonzero, room-nonzero, sound-sheet}
-use Rattle.paths.specs.Table.{LoopAt, Table, Sound}
 use Rattle.tables.specs.Row.{Rows}
-use Rattle.paths.specs.Questions.{SoundSheet, loopRules, soundRules, roomRules, afterFrame, CheckRight, KeptFrom}
+use Rattle.paths.specs.Questions.{SoundSheet, soundRules, roomRules, KeptFrom}
 use Rattle.tables.specs.Questions.{TableOutcome, tableOutcome, TableDone, tableAfterFrame, TableRight}
-use Rattle.paths.specs.Laws.Path.{joins-start-lt}
 use Rattle.tables.specs.Laws.Entry.{entry-unique}
 
 -- ---- path table

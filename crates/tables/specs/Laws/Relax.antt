@@ -2,12 +2,11 @@
 -- Assumes nothing.
 use mathlib.Core.Path.{_≡_, refl, sym, ap, _∙_, subst}
 use mathlib.Core.Bool.{Bool, true, false}
-use mathlib.Core.Logic.{_⊎_, inl, inr}
+use mathlib.Core.Logic.{_⊎_, inl}
 use mathlib.Core.List.{List}
-use Prim.Native.Nat.{ℕ, zero, suc, _+_, _*_, _≤_, _<_}
+use Prim.Native.Nat.{ℕ, _+_, _*_, _≤_, _<_}
 use native.Mathlib.Decide.{ℕ-discrete}
 use native.Mathlib.Omega.{arith}
-use native.Mathlib.Numerals.{add-one}
 use borrow.Author.Count.{below-more}
 use lib.ListN.{length, getD, set, length-set}
 use lib.Seq.{getD-set-same, getD-set-other}
@@ -15,8 +14,8 @@ use Rattle.paths.specs.Laws.Way.{Limits}
 use Rattle.sheet.specs.Core.{Shape}
 use Rattle.paths.specs.Lists.{held}
 use Rattle.paths.specs.Table.{Way}
-use Rattle.tables.specs.Row.{baseW, baseD, offerW, offerD, Row, Relaxed, Round, Rounded}
-use Rattle.tables.specs.Laws.Ahead.{Ahead, fewer, level, ahead-registers, ahead-refl, ahead-trans, ahead-add}
+use Rattle.tables.specs.Row.{baseW, offerW, offerD, Row, Relaxed, Round, Rounded}
+use Rattle.tables.specs.Laws.Ahead.{Ahead, ahead-registers, ahead-refl, ahead-trans, ahead-add}
 use Rattle.tables.specs.Laws.Rows.{base-way, base-few, base-small, base-ahead}
 use Rattle.paths.specs.Laws.Way.{way-more}
 

@@ -1,25 +1,24 @@
 -- Rounds over all wires: after k of them a row is ahead of every path of at most k wires, so n rounds give the table's row.
 -- Assumes nothing.
-use mathlib.Core.Path.{_≡_, refl, sym, ap, _∙_, subst}
-use mathlib.Core.Bool.{Bool, true, false, cond}
+use mathlib.Core.Path.{_≡_, refl}
+use mathlib.Core.Bool.{cond}
 use mathlib.Core.Logic.{_⊎_, inl, inr}
-use mathlib.Core.List.{List, [], _∷_, _++_}
+use mathlib.Core.List.{List, [], _∷_}
 use Prim.Native.Nat.{ℕ, zero, suc, _+_, _*_, _≤_, _<_}
-use native.Mathlib.Decide.{ℕ-discrete, decLt}
+use native.Mathlib.Decide.{ℕ-discrete}
 use native.Mathlib.Omega.{arith}
 use native.Mathlib.Nat.{add-zero}
 use borrow.Author.Tests.{eq-eqb, ne-eqb}
 use lib.Dec.{eqb}
-use lib.ListN.{length, getD, set, length-append, length-set}
-use lib.Seq.{getD-set-same, getD-set-other}
+use lib.ListN.{length, length-append}
 use Rattle.paths.specs.Laws.Way.{way-start}
 use Rattle.sheet.specs.Core.{Shape}
-use Rattle.paths.specs.Path.{Passes, Joins, registersOn, delayOn}
+use Rattle.paths.specs.Path.{Joins, registersOn, delayOn}
 use Rattle.paths.specs.Lists.{held}
-use Rattle.paths.specs.Table.{LoopAt, Way, Best, Entry, best, none}
-use Rattle.tables.specs.Row.{baseW, baseD, offerW, offerD, Row, Relaxed, Round, Rounded, RowRight}
-use Rattle.paths.specs.Laws.Path.{passes-all, joins-end, joins-end-lt, joins-snoc, joins-ends, registers-snoc, delay-snoc, between-passes, Between, Last, nil, snoc, last}
-use Rattle.tables.specs.Laws.Ahead.{Ahead, fewer, level, ahead-registers, ahead-delay, ahead-refl, ahead-trans, ahead-add, ahead-as}
+use Rattle.paths.specs.Table.{LoopAt, Way, Entry, best, none}
+use Rattle.tables.specs.Row.{baseW, baseD, Row, Round}
+use Rattle.paths.specs.Laws.Path.{joins-end-lt, joins-ends, registers-snoc, delay-snoc, Between, Last, nil, snoc, last}
+use Rattle.tables.specs.Laws.Ahead.{Ahead, fewer, ahead-registers, ahead-delay, ahead-refl, ahead-trans, ahead-add, ahead-as}
 use Rattle.paths.specs.Laws.Simple.{Loop, passed, simple-or-loop, simple-short, cut, cut-joins, cut-fewer, shorten}
 use Rattle.paths.specs.Laws.Pigeons.{NoDup}
 

@@ -6,10 +6,9 @@ use Prim.Native.Nat.{ℕ, _+_, _*_, _<_}
 use native.Mathlib.Omega.{arith}
 use lib.ListN.{getD}
 use lib.IntN.{ℤ, pos, _-ℤ_}
-use Rattle.sheet.specs.Core.{coreOf, shapeOf, blocksIn, wiresIn, registersIn, upperIn}
+use Rattle.sheet.specs.Core.{coreOf, shapeOf, blocksIn, wiresIn, registersIn, delayIn, lowerIn, upperIn}
 use Rattle.sheet.specs.Laws.Integer.{up, down, minus}
-use Rattle.sheet.specs.Laws.Lag.{excess-parts}
-use Rattle.sheet.specs.Laws.Sheet.{upper-fits}
+use Rattle.sheet.specs.Laws.Sheet.{upper-parts}
 use Rattle.paths.specs.Table.{Best, Entry, best, none}
 use Rattle.solver.specs.System.{Given, Rule, path, wire, ceiling, Link, rule, upper}
 use Rattle.witness.specs.Stands.{Slow, Stands}
@@ -61,5 +60,5 @@ module _ (s : List ℕ) (g : Given) (h : Stands s g) where
       record {
         z = upperIn s a;
         asked = for-upper e l′ x refl;
-        z-is = omega (arith, h .upper-is a l′, excess-parts (upperIn s a) (upper-fits _ _ _ _ (h .sound .formed .block a l′)));
+        z-is = omega (arith, h .upper-is a l′, upper-parts a (delayIn s a) (lowerIn s a) (upperIn s a) (h .sound .formed .block a l′));
       }

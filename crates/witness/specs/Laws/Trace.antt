@@ -13,9 +13,10 @@ use Rattle.sheet.specs.Reads.{WireIs}
 use Rattle.paths.specs.Path.{Joins, registersOn, delayOn}
 use Rattle.paths.specs.Table.{LoopAt, Best, Entry, best, none}
 use Rattle.paths.specs.Laws.Path.{passes-all, joins-append, joins-start-lt, joins-end-lt, between-passes, registers-append}
+use Rattle.tables.specs.Back.{Completed}
 use Rattle.tables.specs.Laws.Entry.{entry-unique, fewest-short, backward}
 use Rattle.paths.specs.Laws.Parts.{row-before, square-small}
-use Rattle.witness.specs.Trace.{Tabled, Based, Completed, NoneBefore, Bare, Apart, Traced, Suffix, Tracing}
+use Rattle.witness.specs.Trace.{Tabled, Based, NoneBefore, Bare, Apart, Traced, Suffix, Tracing}
 
 -- an entry of a table of n blocks is inside 4,096
 pub entry-in : (n u v : ℕ) → n ≤ 64 → u < n → v < n → u * n + v < 4096
@@ -27,14 +28,6 @@ module _ (s : Shape) (w : ℕ → ℕ) where
   entry-best u v W D (none f p q) h = absurd (omega arith)
 
   module _ (free : (b : ℕ) → LoopAt s w b → ⊥) (u v W D : ℕ) where
-    -- a best entry that is not the bare start has a wire that completes it
-    pub some-wire : Best s w u v W D → Apart s w u v W D → (j : ℕ) × Completed s w u v W D j
-    some-wire b far =
-        let q = backward s w free u v W D b far in (
-          q .wire,
-          record { registers = q .registers; delay = q .delay; wire-lt = q .wire-lt; end = q .end; registers-is = q .registers-is; delay-is = q .delay-is; base = q .base },
-        )
-
     -- a path with these numbers is short
     path-short : Best s w u v W D → (ws : List ℕ) → Joins s u ws v → registersOn w ws ≡ W → length ws < s .n
     path-short b ws h e = fewest-short s w free u v ws h (λ xs k. omega (arith, b .fewest xs k))
@@ -100,7 +93,7 @@ module _ (s : Shape) (w : ℕ → ℕ) where
     search-on bad i c = elim (ℕ-discrete j i) [ yes e ↦ absurd (bad (rw e c)) | no e ↦ omega (arith, h i c) ]
 
     pub search-short : (free : (b : ℕ) → LoopAt s w b → ⊥) → Best s w u v W D → Apart s w u v W D → j < s .m
-    search-short free b far = let q = some-wire free u v W D b far in omega (arith, h (q .0) (q .1), q .1 .wire-lt)
+    search-short free b far = let q = backward s w free u v W D b far in omega (arith, h (q .0) (q .1), q .1 .wire-lt)
 
 -- ---- on a sheet, by the numbers that code holds
 module _ (s : List ℕ) (n : ℕ) (registers delays : List ℕ) (t : Tabled s n registers delays) where

@@ -10,12 +10,11 @@ use native.Mathlib.Nat.{mul-le-mul}
 use lib.IntN.{ℤ, negℤ}
 use lib.ListN.{length, getD, take}
 use lib.Seq.{sets}
-use Rattle.sheet.specs.Core.{Core, coreOf, blocksIn, lowerIn}
+use Rattle.sheet.specs.Core.{Core, coreOf, blocksIn, delayIn, lowerIn, upperIn}
 use Rattle.sheet.specs.Sheet.{Formed}
 use Rattle.sheet.specs.Laws.Formed.{formed-core}
 use Rattle.sheet.specs.Laws.Integer.{negated}
-use Rattle.sheet.specs.Laws.Lag.{excess-parts}
-use Rattle.sheet.specs.Laws.Sheet.{lower-fits}
+use Rattle.sheet.specs.Laws.Sheet.{lower-parts}
 use Rattle.paths.specs.Laws.Pigeons.{NotIn}
 use Rattle.loops.specs.Link.{Link, lower, allWords, linkA, sumK, ValidLoop}
 use Rattle.loops.specs.Laws.Chain.{parts-negative}
@@ -162,7 +161,7 @@ module _ (s : List ℕ) (n : ℕ) (registers delays par ups : List ℕ) (i a b :
         linked-next (coreOf s) (g .period) 0 0 (getD e 0 0) (getD e 0 0) [] w w 0 (linked-none (coreOf s) (g .period) 0 (getD e 0 0) w) 0 a (negℤ (lowerIn s a)) w′ 2
         (getD (g .lower) a 0)
         (lower-written w w′ q)
-        (omega (arith, host-lag, h .stands .lower-is a l, negated (lowerIn s a), excess-parts (lowerIn s a) (lower-fits _ _ _ _ (h .stands .sound .formed .block a l))))
+        (omega (arith, host-lag, h .stands .lower-is a l, negated (lowerIn s a), lower-parts a (delayIn s a) (lowerIn s a) (upperIn s a) (h .stands .sound .formed .block a l)))
         tt
         (λ none z. omega arith)
 

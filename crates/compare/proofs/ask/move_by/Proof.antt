@@ -1,7 +1,9 @@
 -- Both parts are within their lists, so each is as long as the record says.
 use native.Mathlib.Omega.{arith}
+use native.Mathlib.Omega.{arith}
 use lib.Seq.{length-take-le}
 use mathlib.Core.Path.{sym}
+use borrow.Author.Needs.{needs}
 use borrow.Author.Needs.{needs}
 use Rattle.compare.proofs.ask.move_by.Statement.{statement}
 use Rattle.compare.proofs.ask.move_by.Tie as tie
@@ -30,8 +32,8 @@ move-by-requires c κs = search needs
 head-requires : tie.Need-head-requires
 head-requires c κs = search needs
 
-room-requires : tie.Need-room-requires
-room-requires c κs = search needs
+at-most-requires : tie.Need-at-most-requires
+at-most-requires c κs = search needs
 
 moved-lines-requires : tie.Need-moved-lines-requires
 moved-lines-requires c κs = search needs
@@ -51,6 +53,6 @@ move-by-spec =
     slice-aggregate-move-by-2
     move-by-requires
     head-requires
-    room-requires
+    at-most-requires
     moved-lines-requires
     returns)

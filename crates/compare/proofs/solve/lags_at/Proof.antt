@@ -1,7 +1,9 @@
 -- Both parts are within their lists, so each is as long as the record says.
 use native.Mathlib.Omega.{arith}
+use native.Mathlib.Omega.{arith}
 use lib.Seq.{length-take-le}
 use mathlib.Core.Path.{sym}
+use borrow.Author.Needs.{needs}
 use borrow.Author.Needs.{needs}
 use Rattle.compare.proofs.solve.lags_at.Statement.{statement}
 use Rattle.compare.proofs.solve.lags_at.Tie as tie
@@ -27,8 +29,11 @@ slice-aggregate-lags-at-2 c = sym (length-take-le _ _ (omega arith))
 lags-at-requires : tie.Need-lags-at-requires
 lags-at-requires c κs = search needs
 
-lag-count-requires : tie.Need-lag-count-requires
-lag-count-requires c κs = search needs
+blocks-requires : tie.Need-blocks-requires
+blocks-requires c κs = search needs
+
+at-most-requires : tie.Need-at-most-requires
+at-most-requires c κs = search needs
 
 answered-requires : tie.Need-answered-requires
 answered-requires c κs = search needs
@@ -47,6 +52,7 @@ lags-at-spec =
     array-borrow-prefix-words
     slice-aggregate-lags-at-2
     lags-at-requires
-    lag-count-requires
+    blocks-requires
+    at-most-requires
     answered-requires
     returns)

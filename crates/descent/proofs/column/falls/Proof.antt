@@ -2,7 +2,7 @@ use native.Mathlib.Omega.{arith}
 use mathlib.Core.Logic.{⊎-elim}
 use Prim.Native.Nat.{_≤_, _-_}
 use Rattle.descent.specs.State.{Counted}
-use Rattle.descent.specs.Laws.Column.{count-start, count-more, count-same, count-end}
+use Rattle.descent.specs.Laws.Column.{tally-start, tally-more, tally-same, tally-end}
 use Rattle.descent.proofs.column.falls.Statement.{statement}
 use Rattle.descent.proofs.column.falls.Tie as tie
 
@@ -13,7 +13,7 @@ abbrev μ-loop : tie.MeasureT-loop
 μ-loop keys c v ev e count₀ u₀ count u = 64 - u
 
 loop-holds : tie.Need-loop-holds Inv-loop μ-loop
-loop-holds c = (omega arith, count-start _ _ _ _ _)
+loop-holds c = (omega arith, tally-start _ _)
 
 bar-of-requires : tie.Need-bar-of-requires Inv-loop μ-loop
 bar-of-requires c κs = (c .before .before .pre .0, omega arith)
@@ -34,10 +34,10 @@ loop-less : tie.Need-loop-less Inv-loop μ-loop
 loop-less c = omega arith
 
 loop-again : tie.Need-loop-again Inv-loop μ-loop
-loop-again c = (omega arith, ⊎-elim (λ w. rw (w .1) (count-more _ _ _ _ _ (c .before .before .before .before .loop .inv .1) (omega (arith, c .before .before .bar-of .ensures)) (omega arith))) (λ w. rw (w .1) (count-same _ _ _ _ _ (c .before .before .before .before .loop .inv .1) (omega (arith, c .before .before .bar-of .ensures)))) (c .if1 .came))
+loop-again c = (omega arith, ⊎-elim (λ w. rw (w .1) (tally-more (c .before .before .before .before .loop .inv .1) (omega (arith, c .before .before .bar-of .ensures)))) (λ w. rw (w .1) (tally-same (c .before .before .before .before .loop .inv .1) (omega (arith, c .before .before .bar-of .ensures)))) (c .if1 .came))
 
 returns : tie.Need-returns Inv-loop μ-loop
-returns c = count-end _ _ _ _ _ (c .before .loop .inv .1) (omega arith) (c .before .loop .inv .0)
+returns c = tally-end (c .before .loop .inv .1) (omega arith) (c .before .loop .inv .0)
 
 pub falls-spec : {M : Type 1} → statement M
 falls-spec =

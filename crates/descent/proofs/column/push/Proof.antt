@@ -7,16 +7,16 @@ use Rattle.descent.proofs.column.push.Statement.{statement}
 use Rattle.descent.proofs.column.push.Tie as tie
 
 abbrev Inv-loop : tie.InvT-loop
-Inv-loop keys c v ev e₀ par₀ fresh₀ name u₀ e par fresh u = (u ≤ 64) × Pushed keys c v ev e₀ par₀ fresh₀ e par fresh u
+Inv-loop keys c v ev e₀ links₀ name u₀ e links u = (u ≤ 64) × Pushed keys c v ev e₀ e links u
 
 abbrev μ-loop : tie.MeasureT-loop
-μ-loop keys c v ev e₀ par₀ fresh₀ name u₀ e par fresh u = 64 - u
+μ-loop keys c v ev e₀ links₀ name u₀ e links u = 64 - u
 
 cast-name : tie.Need-cast-name Inv-loop μ-loop
 cast-name c = omega (arith, c .pre .0 .v-small)
 
 loop-holds : tie.Need-loop-holds Inv-loop μ-loop
-loop-holds c = (omega arith, push-start _ _ _ (c .pre .1) (c .pre .2) (c .pre .3))
+loop-holds c = (omega arith, push-start _ (c .pre .1) (c .pre .2))
 
 bar-of-requires : tie.Need-bar-of-requires Inv-loop μ-loop
 bar-of-requires c κs = (c .before .before .pre .0, omega arith)
@@ -31,34 +31,22 @@ mul-link : tie.Need-mul-link Inv-loop μ-loop
 mul-link c = omega arith
 
 element-copy-out-link : tie.Need-element-copy-out-link Inv-loop μ-loop
-element-copy-out-link c = omega (arith, c .before .before .before .loop .inv .1 .par-long)
-
-mul-new : tie.Need-mul-new Inv-loop μ-loop
-mul-new c = omega arith
-
-element-copy-out-new : tie.Need-element-copy-out-new Inv-loop μ-loop
-element-copy-out-new c = omega (arith, c .before .before .before .before .loop .inv .1 .fresh-long)
+element-copy-out-link c = omega (arith, c .before .before .before .loop .inv .1 .links-long)
 
 sub-lag : tie.Need-sub-lag Inv-loop μ-loop
-sub-lag c = omega (arith, c .before .before .before .before .bar-of .ensures)
+sub-lag c = omega (arith, c .before .before .before .bar-of .ensures)
 
 mul-e : tie.Need-mul-e Inv-loop μ-loop
 mul-e c = omega arith
 
 element-write-e : tie.Need-element-write-e Inv-loop μ-loop
-element-write-e c = omega (arith, c .before .before .before .before .before .before .loop .inv .1 .e-long)
+element-write-e c = omega (arith, c .before .before .before .before .before .loop .inv .1 .e-long)
 
-mul-par : tie.Need-mul-par Inv-loop μ-loop
-mul-par c = omega arith
+mul-links : tie.Need-mul-links Inv-loop μ-loop
+mul-links c = omega arith
 
-element-write-par : tie.Need-element-write-par Inv-loop μ-loop
-element-write-par c = omega (arith, c .before .before .before .before .before .before .loop .inv .1 .par-long)
-
-mul-fresh : tie.Need-mul-fresh Inv-loop μ-loop
-mul-fresh c = omega arith
-
-element-write-fresh : tie.Need-element-write-fresh Inv-loop μ-loop
-element-write-fresh c = omega (arith, c .before .before .before .before .before .before .loop .inv .1 .fresh-long)
+element-write-links : tie.Need-element-write-links Inv-loop μ-loop
+element-write-links c = omega (arith, c .before .before .before .before .before .loop .inv .1 .links-long)
 
 add-u : tie.Need-add-u Inv-loop μ-loop
 add-u c = omega arith
@@ -67,10 +55,10 @@ loop-less : tie.Need-loop-less Inv-loop μ-loop
 loop-less c = omega arith
 
 loop-again : tie.Need-loop-again Inv-loop μ-loop
-loop-again c = (omega arith, ⊎-elim (λ w. push-lowers _ _ _ (c .before .before .before .before .before .before .loop .inv .1) (omega arith) _ _ _ (omega (arith, w .1, w .0 .taken, c .before .before .before .before .bar-of .ensures)) (omega (arith, w .0 .taken, c .before .before .before .before .bar-of .ensures)) (w .2) (w .3)) (λ w. push-stays _ _ _ (c .before .before .before .before .before .before .loop .inv .1) (omega arith) _ _ _ (omega (arith, w .0 .left, c .before .before .before .before .bar-of .ensures)) (w .1) (w .2) (w .3)) (c .if1 .came))
+loop-again c = (omega arith, ⊎-elim (λ w. push-lowers _ (c .before .before .before .before .before .loop .inv .1) (omega arith) _ _ (omega (arith, w .1, w .0 .taken, c .before .before .before .bar-of .ensures)) (omega (arith, w .0 .taken, c .before .before .before .bar-of .ensures))) (λ w. push-stays _ (c .before .before .before .before .before .loop .inv .1) (omega arith) _ _ (omega (arith, w .0 .left, c .before .before .before .bar-of .ensures)) (w .1)) (c .if1 .came))
 
 returns : tie.Need-returns Inv-loop μ-loop
-returns c = push-end _ _ _ (c .before .loop .inv .1) (omega arith) (c .before .loop .inv .0)
+returns c = push-end _ (c .before .loop .inv .1) (omega arith) (c .before .loop .inv .0)
 
 pub push-spec : {M : Type 1} → statement M
 push-spec =
@@ -85,15 +73,11 @@ push-spec =
     element-copy-out-lag
     mul-link
     element-copy-out-link
-    mul-new
-    element-copy-out-new
     sub-lag
     mul-e
     element-write-e
-    mul-par
-    element-write-par
-    mul-fresh
-    element-write-fresh
+    mul-links
+    element-write-links
     add-u
     loop-less
     loop-again

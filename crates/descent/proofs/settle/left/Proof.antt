@@ -2,27 +2,33 @@ use native.Mathlib.Omega.{arith}
 use mathlib.Core.Logic.{⊎-elim}
 use Prim.Native.Nat.{_≤_, _-_}
 use Rattle.descent.specs.State.{Left}
-use Rattle.descent.specs.Laws.Round.{left-start, left-more, left-same, left-end}
+use Rattle.descent.specs.Laws.Column.{tally-start, tally-more, tally-same, tally-end}
 use Rattle.descent.proofs.settle.left.Statement.{statement}
 use Rattle.descent.proofs.settle.left.Tie as tie
 
 abbrev Inv-loop : tie.InvT-loop
-Inv-loop fresh count₀ w₀ count w = (w ≤ 64) × Left fresh w count
+Inv-loop e seen count₀ w₀ count w = (w ≤ 64) × Left e seen w count
 
 abbrev μ-loop : tie.MeasureT-loop
-μ-loop fresh count₀ w₀ count w = 64 - w
+μ-loop e seen count₀ w₀ count w = 64 - w
 
 loop-holds : tie.Need-loop-holds Inv-loop μ-loop
-loop-holds c = (omega arith, left-start _)
+loop-holds c = (omega arith, tally-start _ _)
 
 mul-if1 : tie.Need-mul-if1 Inv-loop μ-loop
 mul-if1 c = omega arith
 
 element-copy-out-if1 : tie.Need-element-copy-out-if1 Inv-loop μ-loop
-element-copy-out-if1 c = omega (arith, c .before .before .pre)
+element-copy-out-if1 c = omega (arith, c .before .before .pre .0)
+
+mul-if1-2 : tie.Need-mul-if1-2 Inv-loop μ-loop
+mul-if1-2 c = omega arith
+
+element-copy-out-if1-2 : tie.Need-element-copy-out-if1-2 Inv-loop μ-loop
+element-copy-out-if1-2 c = omega (arith, c .before .before .before .pre .1)
 
 add-count : tie.Need-add-count Inv-loop μ-loop
-add-count c = omega (arith, c .before .before .before .loop .inv .1 .few)
+add-count c = omega (arith, c .before .before .before .before .loop .inv .1 .few)
 
 add-w : tie.Need-add-w Inv-loop μ-loop
 add-w c = omega arith
@@ -31,10 +37,10 @@ loop-less : tie.Need-loop-less Inv-loop μ-loop
 loop-less c = omega arith
 
 loop-again : tie.Need-loop-again Inv-loop μ-loop
-loop-again c = (omega arith, ⊎-elim (λ w. rw (w .1) (left-more (c .before .before .before .loop .inv .1) (w .0 .taken))) (λ w. rw (w .1) (left-same (c .before .before .before .loop .inv .1) (w .0 .left))) (c .if1 .came))
+loop-again c = (omega arith, ⊎-elim (λ w. rw (w .1) (tally-more (c .before .before .before .before .loop .inv .1) (w .0 .taken))) (λ w. rw (w .1) (tally-same (c .before .before .before .before .loop .inv .1) (w .0 .left))) (c .if1 .came))
 
 returns : tie.Need-returns Inv-loop μ-loop
-returns c = left-end (c .before .loop .inv .1) (omega arith) (c .before .loop .inv .0)
+returns c = tally-end (c .before .loop .inv .1) (omega arith) (c .before .loop .inv .0)
 
 pub left-spec : {M : Type 1} → statement M
 left-spec =
@@ -45,6 +51,8 @@ left-spec =
     loop-holds
     mul-if1
     element-copy-out-if1
+    mul-if1-2
+    element-copy-out-if1-2
     add-count
     add-w
     loop-less

@@ -1,9 +1,7 @@
 -- A wire that has seen its start's row is left alone; any other is tried, and what it lowers moves its end's version on.
 use native.Mathlib.Omega.{arith}
-use native.Mathlib.Omega.{arith}
 use lib.ListN.{getD}
 use Rattle.keys.specs.Laws.Sweep.{wire-room, no-news, had-news}
-use borrow.Author.Needs.{needs}
 use Rattle.keys.proofs.sweep.step.Statement.{statement}
 use Rattle.keys.proofs.sweep.step.Tie as tie
 

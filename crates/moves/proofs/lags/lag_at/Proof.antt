@@ -1,5 +1,4 @@
 -- What is read from the list is the lag itself.
-use native.Mathlib.Omega.{arith}
 use mathlib.Core.Path.{subst}
 use lib.IntN.{ℤ, pos}
 use lib.ListN.{getD}

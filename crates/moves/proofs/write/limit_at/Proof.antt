@@ -1,9 +1,5 @@
 -- The entry's own limit, which a formed sheet has.
-use native.Mathlib.Omega.{arith}
-use mathlib.Core.Path.{_≡_, sym, subst}
-use mathlib.Core.Bool.{Bool}
 use Rattle.sheet.specs.Laws.Sheet.{block-read, block-refused}
-use Rattle.moves.specs.Write.{LimitRead}
 use Rattle.moves.specs.Laws.Writing.{upper-read, lower-read}
 use borrow.Author.Needs.{needs}
 use Rattle.moves.proofs.write.limit_at.Statement.{statement}

@@ -1,5 +1,4 @@
 -- The four steps together.
-use native.Mathlib.Omega.{arith}
 use Rattle.moves.specs.Lags.{lagsIn}
 use Rattle.moves.specs.Laws.Writing.{written-made}
 use borrow.Author.Needs.{needs}

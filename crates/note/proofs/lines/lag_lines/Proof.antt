@@ -1,6 +1,5 @@
 -- Block after block, up to n.
 use borrow.Author.Needs.{needs}
-use native.Mathlib.Omega.{arith}
 use Prim.Native.Nat.{_-_}
 use Rattle.note.proofs.lines.lag_lines.Statement.{statement}
 use Rattle.note.proofs.lines.lag_lines.Tie as tie

@@ -1,6 +1,5 @@
 -- Wire after wire, up to m.
 use borrow.Author.Needs.{needs}
-use native.Mathlib.Omega.{arith}
 use Prim.Native.Nat.{_-_}
 use Rattle.note.proofs.lines.wire_lines.Statement.{statement}
 use Rattle.note.proofs.lines.wire_lines.Tie as tie

@@ -1,7 +1,7 @@
 -- Short lists first, then the sheet's own refusals, then the solver's runs.
 use native.Mathlib.Omega.{arith}
 use native.Mathlib.Nat.{mul-le-mul}
-use Prim.Native.Nat.{ℕ, _+_, _≤_}
+use Prim.Native.Nat.{_+_, _≤_}
 use Rattle.sheet.specs.Laws.Rules.{refused, passed}
 use Rattle.sheet.specs.Laws.Sheet.{framed-none}
 use Rattle.paths.specs.Laws.Questions.{sound-sheet}

@@ -1,6 +1,4 @@
 -- The quick way's lags are written out; where it has none, a refusal is.
-use native.Mathlib.Omega.{arith}
-use native.Mathlib.Omega.{arith}
 use Rattle.periods.specs.Laws.Quick.{quick-hopeless, quick-writes, quick-done}
 use borrow.Author.Needs.{needs}
 use Rattle.periods.proofs.lags.asked_sound.Statement.{statement}

@@ -1,6 +1,6 @@
 -- Lags at rest are what was asked for; where a period has none, neither has a shorter one.
 use native.Mathlib.Omega.{arith}
-use native.Mathlib.Omega.{arith}
+use mathlib.Core.Path.{refl}
 use Rattle.periods.specs.Laws.Quick.{begins, settled-at, settled-none}
 use borrow.Author.Needs.{needs}
 use Rattle.periods.proofs.quick.sought.Statement.{statement}
@@ -13,7 +13,7 @@ shorter-requires : tie.Need-shorter-requires
 shorter-requires c κs = search needs
 
 settle-requires : tie.Need-settle-requires
-settle-requires c κs = (_, c .before .before .shorter .result, begins _ (c .before .before .before .before .before .before .pre .0) (c .before .before .before .before .before .before .pre .1), omega arith, omega (arith, c .before .before .shorter .ensures))
+settle-requires c κs = (c .before .before .shorter .result, begins _ (c .before .before .before .before .before .before .pre .0) (c .before .before .before .before .before .before .pre .1), omega arith, omega (arith, c .before .before .shorter .ensures), refl)
 
 returns : tie.Need-returns
 returns c = rw (c .before .before .before .before .before .before .aim .given .1) tt
@@ -22,19 +22,19 @@ enum-told : tie.Need-enum-told
 enum-told c = search needs
 
 settle-requires-2 : tie.Need-settle-requires-2
-settle-requires-2 c κs = (_, 1048575, begins _ (c .before .before .before .before .pre .0) (c .before .before .before .before .pre .1), omega arith, omega arith)
+settle-requires-2 c κs = (1048575, begins _ (c .before .before .before .before .pre .0) (c .before .before .before .before .pre .1), omega arith, omega arith, refl)
 
 returns-2 : tie.Need-returns-2
-returns-2 c = rw (c .before .before .before .before .enum-told .given .1) (settled-none (c .before .settle2 .ensures _ 1048575 (begins _ (c .before .before .before .before .before .before .pre .0) (c .before .before .before .before .before .before .pre .1)) (omega arith)) (omega arith))
+returns-2 c = rw (c .before .before .before .before .enum-told .given .1) (settled-none (c .before .settle2 .ensures 1048575 (begins _ (c .before .before .before .before .before .before .pre .0) (c .before .before .before .before .before .before .pre .1)) (omega arith)) (omega arith))
 
 least-requires : tie.Need-least-requires
-least-requires c κs = (_, 1048575, c .before .before .before .settle2 .ensures _ 1048575 (begins _ (c .before .before .before .before .before .before .before .before .pre .0) (c .before .before .before .before .before .before .before .before .pre .1)) (omega arith) .rest (omega arith), omega arith)
+least-requires c κs = let S = c .before .before .before .settle2 .ensures 1048575 (begins _ (c .before .before .before .before .before .before .before .before .pre .0) (c .before .before .before .before .before .before .before .before .pre .1)) (omega arith) in (1048575, S .rest (omega arith), omega arith, S .links-long)
 
 returns-3 : tie.Need-returns-3
-returns-3 c = rw (c .before .before .before .before .before .before .aim .given .1) (settled-at _ (c .before .settle .ensures _ (c .before .before .before .before .shorter .result) (begins _ (c .before .before .before .before .before .before .before .before .pre .0) (c .before .before .before .before .before .before .before .before .pre .1)) (omega arith)) (c .before .before .before .before .shorter .ensures) (omega arith))
+returns-3 c = rw (c .before .before .before .before .before .before .aim .given .1) (settled-at _ (c .before .settle .ensures (c .before .before .before .before .shorter .result) (begins _ (c .before .before .before .before .before .before .before .before .pre .0) (c .before .before .before .before .before .before .before .before .pre .1)) (omega arith)) (c .before .before .before .before .shorter .ensures) (omega arith))
 
 returns-4 : tie.Need-returns-4
-returns-4 c = rw (c .before .before .before .before .before .before .before .enum-told .given .1) (c .least .ensures _ 1048575 (c .before .before .before .before .settle2 .ensures _ 1048575 (begins _ (c .before .before .before .before .before .before .before .before .before .pre .0) (c .before .before .before .before .before .before .before .before .before .pre .1)) (omega arith) .rest (omega arith)) (omega arith))
+returns-4 c = rw (c .before .before .before .before .before .before .before .enum-told .given .1) (c .least .ensures 1048575 (c .before .before .before .before .settle2 .ensures 1048575 (begins _ (c .before .before .before .before .before .before .before .before .before .pre .0) (c .before .before .before .before .before .before .before .before .before .pre .1)) (omega arith) .rest (omega arith)) (omega arith))
 
 pub sought-spec : {M : Type 1} → statement M
 sought-spec =

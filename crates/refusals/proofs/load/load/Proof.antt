@@ -1,5 +1,4 @@
 -- The lists hold the sheet's numbers, and there is no path table.
-use native.Mathlib.Omega.{arith}
 use Prim.Native.Nat.{ℕ}
 use lib.ListN.{length-replicate}
 use Rattle.refusals.specs.Laws.Load.{few-wires, long-is, own-few, loaded-held}

@@ -1,8 +1,8 @@
 -- Lag after lag is stored.
 use borrow.Author.Needs.{needs}
 use native.Mathlib.Omega.{arith}
-use Prim.Native.Nat.{ℕ, _≤_, _<_, _-_}
-use mathlib.Core.Path.{_≡_, refl, sym, _∙_}
+use Prim.Native.Nat.{_≤_, _-_}
+use mathlib.Core.Path.{_≡_, sym, _∙_}
 use lib.ListN.{length, getD, length-set}
 use Rattle.sheet.specs.Filled.{filled}
 use Rattle.sheet.specs.Lag.{lagOf}

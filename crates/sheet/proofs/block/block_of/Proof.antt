@@ -1,6 +1,5 @@
 -- Each test that fails breaks the block rule; the host's entry has tests of its own.
-use native.Mathlib.Omega.{arith}
-use mathlib.Core.Path.{_≡_, sym, subst}
+use mathlib.Core.Path.{sym, subst}
 use Prim.Native.Nat.{ℕ}
 use Rattle.sheet.specs.Reads.{BlockOf}
 use borrow.Author.Needs.{needs}

@@ -1,5 +1,4 @@
 -- Each test that fails breaks the host's rule.
-use native.Mathlib.Omega.{arith}
 use mathlib.Core.Path.{refl}
 use borrow.Author.Needs.{needs}
 use Rattle.sheet.proofs.block.host_of.Statement.{statement}

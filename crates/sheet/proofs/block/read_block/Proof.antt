@@ -1,5 +1,4 @@
 -- The entry's numbers stand where the sheet has them.
-use native.Mathlib.Omega.{arith}
 use Rattle.sheet.specs.Laws.Sheet.{block-given}
 use borrow.Author.Needs.{needs}
 use Rattle.sheet.proofs.block.read_block.Statement.{statement}

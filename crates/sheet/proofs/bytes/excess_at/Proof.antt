@@ -1,5 +1,4 @@
 -- The 16 bits are read as a number; their excess number is that number turned by 32,768.
-use native.Mathlib.Omega.{arith}
 use Rattle.sheet.specs.Laws.Sheet.{excess-read}
 use borrow.Author.Needs.{needs}
 use Rattle.sheet.proofs.bytes.excess_at.Statement.{statement}

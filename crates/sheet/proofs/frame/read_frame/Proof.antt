@@ -1,6 +1,5 @@
 -- Each test stands for its refusal; what passes them all is framed.
 use native.Mathlib.Omega.{arith}
-use mathlib.Core.Path.{refl}
 use mathlib.Core.Logic.{inl, inr}
 use Rattle.sheet.specs.Laws.Rules.{told-true, told-false}
 use Rattle.sheet.specs.Laws.Sheet.{too-short, counts-wrong, offsets-wrong}

@@ -1,8 +1,7 @@
 -- A lag plus 32,768 is its excess number, and nothing wraps.
-use borrow.Author.Needs.{needs}
 use native.Mathlib.Omega.{arith}
 use mir.Facts.{toZ-ofZ, sfits-widen}
-use mathlib.Core.Path.{ap, _∙_}
+use mathlib.Core.Path.{ap}
 use lib.IntN.{natAbs}
 use Rattle.sheet.specs.Laws.Lag.{excess-fits}
 use Rattle.sheet.proofs.Signed.{sum, sum-fits, sum-read}

@@ -1,5 +1,4 @@
 -- An excess number less 32,768 is its lag, and nothing wraps.
-use native.Mathlib.Omega.{arith}
 use mir.Syntax.{w16, w32}
 use mir.Facts.{sfits-widen}
 use Rattle.sheet.proofs.Signed.{difference, lag-fits, difference-read, lag-read}

@@ -1,5 +1,4 @@
 -- The entry's numbers stand where the sheet has them.
-use native.Mathlib.Omega.{arith}
 use Rattle.sheet.specs.Laws.Sheet.{wire-given}
 use borrow.Author.Needs.{needs}
 use Rattle.sheet.proofs.wire.read_wire.Statement.{statement}

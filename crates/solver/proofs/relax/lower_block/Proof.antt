@@ -1,9 +1,6 @@
 use native.Mathlib.Omega.{arith}
 use Rattle.solver.specs.Laws.Step.{bounds, step-met, step-under, step-lowers}
-use Rattle.sheet.specs.Laws.Rules.{told-true, told-false}
 use mathlib.Core.Path.{refl}
-use native.Mathlib.Omega.{arith}
-use borrow.Author.Needs.{needs}
 use borrow.Author.Needs.{needs}
 use Rattle.solver.proofs.relax.lower_block.Statement.{statement}
 use Rattle.solver.proofs.relax.lower_block.Tie as tie

@@ -1,9 +1,6 @@
 use native.Mathlib.Omega.{arith}
 use Rattle.solver.specs.Laws.Step.{bounds, step-holds}
 use mathlib.Core.Path.{refl}
-use native.Mathlib.Omega.{arith}
-use borrow.Author.Needs.{needs}
-use borrow.Author.Needs.{needs}
 use Rattle.solver.proofs.relax.relax.Statement.{statement}
 use Rattle.solver.proofs.relax.relax.Tie as tie
 

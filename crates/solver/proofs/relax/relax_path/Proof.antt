@@ -1,9 +1,6 @@
-use borrow.Author.Needs.{needs}
 use native.Mathlib.Omega.{arith}
 use Rattle.solver.specs.Laws.Sweep.{pair-at, table-long, path-ready, path-small, path-quick, path-says}
 use mathlib.Core.Path.{refl}
-use native.Mathlib.Omega.{arith}
-use borrow.Author.Needs.{needs}
 use Rattle.solver.proofs.relax.relax_path.Statement.{statement}
 use Rattle.solver.proofs.relax.relax_path.Tie as tie
 

@@ -32,7 +32,7 @@ loop-less : tie.Need-loop-less Inv-loop μ-loop
 loop-less c = search needs
 
 loop-again : tie.Need-loop-again Inv-loop μ-loop
-loop-again c = (omega arith, longest-more (c .before .before .before .before .args .delays .now) _ _ _ (c .before .before .before .loop .inv .1) (c .larger .ensures .0) (c .larger .ensures .1))
+loop-again c = (omega arith, longest-more (c .before .before .before .before .args .delays .now) _ _ _ (c .before .before .before .loop .inv .1) (omega (arith, c .larger .ensures)) (omega (arith, c .larger .ensures)))
 
 returns : tie.Need-returns Inv-loop μ-loop
 returns c = longest-found _ _ _ (c .before .before .pre) (omega arith) (c .before .loop .inv .1)

@@ -1,13 +1,10 @@
 use borrow.Author.Needs.{needs}
 use native.Mathlib.Omega.{arith}
 use Rattle.solver.specs.System.{Given}
-use Rattle.solver.specs.State.{State, Swept, Paths, PathsHold, Turned}
-use Rattle.solver.specs.Laws.Step.{sweep-start, sweep-both, sweep-says}
+use Rattle.solver.specs.State.{State, Swept, Paths, PathsHold}
+use Rattle.solver.specs.Laws.Step.{sweep-start, sweep-says}
 use Rattle.solver.specs.Laws.Sweep.{paths-turn, pair-at, turn-kept}
-use mathlib.Core.Path.{refl}
-use Prim.Native.Nat.{_≤_, _<_, _-_, _*_}
-use native.Mathlib.Omega.{arith}
-use borrow.Author.Needs.{needs}
+use Prim.Native.Nat.{_≤_, _-_, _*_}
 use Rattle.solver.proofs.sweep.sweep_paths.Statement.{statement}
 use Rattle.solver.proofs.sweep.sweep_paths.Tie as tie
 

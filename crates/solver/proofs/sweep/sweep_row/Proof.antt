@@ -2,12 +2,9 @@ use borrow.Author.Needs.{needs}
 use native.Mathlib.Omega.{arith}
 use Rattle.solver.specs.System.{Given}
 use Rattle.solver.specs.State.{State, Swept, Paths, RowHolds}
-use Rattle.solver.specs.Laws.Step.{sweep-start, sweep-step, sweep-says}
+use Rattle.solver.specs.Laws.Step.{sweep-start, sweep-says}
 use Rattle.solver.specs.Laws.Sweep.{row-turn, pair-at}
-use mathlib.Core.Path.{refl}
 use Prim.Native.Nat.{_≤_, _<_, _-_}
-use native.Mathlib.Omega.{arith}
-use borrow.Author.Needs.{needs}
 use Rattle.solver.proofs.sweep.sweep_row.Statement.{statement}
 use Rattle.solver.proofs.sweep.sweep_row.Tie as tie
 

@@ -1,9 +1,6 @@
 use borrow.Author.Needs.{needs}
 use native.Mathlib.Omega.{arith}
 use Rattle.solver.specs.Laws.Walk.{Walking, walk-start, walk-step, walk-hit, walk-end, walk-over}
-use lib.ListN.{length}
-use borrow.Author.Needs.{needs}
-use native.Mathlib.Omega.{arith}
 use Prim.Native.Nat.{_-_}
 use Rattle.solver.proofs.walk.meets.Statement.{statement}
 use Rattle.solver.proofs.walk.meets.Tie as tie

@@ -1,5 +1,4 @@
 -- The block and its limit.
-use native.Mathlib.Omega.{arith}
 use mathlib.Core.Path.{refl}
 use borrow.Author.Needs.{needs}
 use Rattle.tables.proofs.row.end_at.Statement.{statement}

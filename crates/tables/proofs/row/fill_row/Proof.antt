@@ -1,5 +1,4 @@
 -- The finished keys are the row.
-use native.Mathlib.Omega.{arith}
 use Rattle.tables.specs.Laws.Keys.{right-decoded}
 use borrow.Author.Needs.{needs}
 use Rattle.tables.proofs.row.fill_row.Statement.{statement}

@@ -1,6 +1,5 @@
 -- The test settles which is the lesser.
 use native.Mathlib.Omega.{arith}
-use borrow.Author.Needs.{needs}
 use Rattle.tables.proofs.row.least.Statement.{statement}
 use Rattle.tables.proofs.row.least.Tie as tie
 

@@ -1,5 +1,4 @@
 -- The registers and their limit.
-use native.Mathlib.Omega.{arith}
 use mathlib.Core.Path.{refl}
 use borrow.Author.Needs.{needs}
 use Rattle.tables.proofs.row.registers_at.Statement.{statement}

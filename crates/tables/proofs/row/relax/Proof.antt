@@ -1,6 +1,5 @@
 -- What was read and stored is what trying the wire comes to.
-use native.Mathlib.Omega.{arith}
-use mathlib.Core.Path.{_≡_, refl, ap, _∙_}
+use mathlib.Core.Path.{refl, _∙_}
 use Rattle.tables.specs.Laws.Keys.{near-of, cost-few, offer-is, tried-far, tried}
 use borrow.Author.Needs.{needs}
 use Rattle.tables.proofs.row.relax.Statement.{statement}

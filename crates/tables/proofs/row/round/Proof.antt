@@ -1,10 +1,10 @@
 -- Wire after wire is tried; what has been tried stays tried.
 use borrow.Author.Needs.{needs}
 use native.Mathlib.Omega.{arith}
-use mathlib.Core.Path.{_≡_, refl, sym, _∙_}
+use mathlib.Core.Path.{_≡_, sym, _∙_}
 use mathlib.Core.Bool.{true, false, true≢false}
 use mathlib.Core.Logic.{⊎-elim}
-use Prim.Native.Nat.{ℕ, _≤_, _<_, _-_, _*_, _+_}
+use Prim.Native.Nat.{_≤_, _-_, _*_}
 use lib.ListN.{length}
 use Rattle.paths.specs.Lists.{listShape, held}
 use Rattle.tables.specs.Keys.{rowW, rowD, Whole}

@@ -1,9 +1,9 @@
 -- Round after round covers one wire more; n rounds, or one that changes nothing, give the row.
 use borrow.Author.Needs.{needs}
 use native.Mathlib.Omega.{arith}
-use mathlib.Core.Path.{_≡_, refl, sym, ap, _∙_}
+use mathlib.Core.Path.{_≡_, refl, ap, _∙_}
 use mathlib.Core.List.{List}
-use Prim.Native.Nat.{ℕ, _≤_, _<_, _-_, _*_, _+_}
+use Prim.Native.Nat.{ℕ, _≤_, _-_}
 use lib.ListN.{length, set}
 use Rattle.paths.specs.Lists.{listShape, held}
 use Rattle.tables.specs.Keys.{keyW, keyD, rowW, rowD, Whole}

@@ -1,8 +1,8 @@
 -- Each row comes back right; the rows before it and all past the table stay.
 use borrow.Author.Needs.{needs}
 use native.Mathlib.Omega.{arith}
-use mathlib.Core.Path.{_≡_, refl, sym, _∙_}
-use Prim.Native.Nat.{ℕ, _≤_, _<_, _-_, _*_, _+_}
+use mathlib.Core.Path.{_≡_}
+use Prim.Native.Nat.{_≤_, _-_, _*_, _+_}
 use lib.ListN.{length}
 use Rattle.paths.specs.Lists.{listShape, held}
 use Rattle.tables.specs.Row.{Rows}

@@ -1,9 +1,7 @@
 -- The lists hold the sheet's core, so the table is the sheet's.
-use native.Mathlib.Omega.{arith}
-use mathlib.Core.Path.{_≡_, sym}
 use Prim.Native.Nat.{ℕ}
 use lib.ListN.{length-replicate}
-use Rattle.paths.specs.Laws.Same.{same-sym, loop-same}
+use Rattle.paths.specs.Laws.Same.{loop-same}
 use Rattle.paths.specs.Laws.Loaded.{loaded}
 use Rattle.tables.specs.Laws.Keys.{costs-of}
 use Rattle.tables.specs.Laws.Tables.{rows-same}
