@@ -1,6 +1,6 @@
 // A sheet's rules as one table of keys: its path table for all start blocks at once, with the wires' ceilings folded in.
 ghost use Rattle.std.specs.Prelude.{◌≡◌, replicate};
-ghost use Rattle.sheet.specs.Core.{blocksIn, wiresIn};
+ghost use Rattle.sheet.specs.Core.{blocks_in, wires_in};
 ghost use Rattle.paths.specs.Questions.{SoundSheet};
 ghost use Rattle.bounds.specs.Ruled.{Ruled};
 
@@ -17,7 +17,7 @@ pub fn load_rules(
     lower: &mut [u32; 64],
     upper: &mut [u32; 64],
 )
-    requires { SoundSheet s.now × (n ≡ blocksIn s.now) × (m ≡ wiresIn s.now) × (lower.old ≡ replicate 64 32768) × (upper.old ≡ replicate 64 32768) }
+    requires { SoundSheet s.now × (n ≡ blocks_in s.now) × (m ≡ wires_in s.now) × (lower.old ≡ replicate 64 32768) × (upper.old ≡ replicate 64 32768) }
     ensures { Ruled s.now keys.new lower.new upper.new }
 {
     let mut from = [0usize; 256];

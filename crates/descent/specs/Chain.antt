@@ -25,7 +25,7 @@ pub record Eased (keys : List ℕ) (c next : ℕ) (chain r : Chain) : Type 0 whe
 -- some block's lag, if any keep the rules at period c, lies below its lower limit
 pub record Sinking (keys lower upper : List ℕ) (c : ℕ) (e : List ℕ) : Type 0 where
   pub fit : Fit keys lower upper
-  pub e-long : length e ≡ 64
+  pub e_long : length e ≡ 64
   pub most : Below keys lower upper c e
   pub block : ℕ
   pub inside : block < 64

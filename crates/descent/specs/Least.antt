@@ -21,8 +21,8 @@ pub record Lags (e : List ℕ) : Type 0 where
 
 -- lags whose reach can be taken
 pub record Resting (keys e : List ℕ) : Type 0 where
-  pub keys-long : length keys ≡ 4096
-  pub keys-small : (i : ℕ) → get_or keys i 0 ≤ 2099249152
+  pub keys_long : length keys ≡ 4096
+  pub keys_small : (i : ℕ) → get_or keys i 0 ≤ 2099249152
   pub lags : Lags e
   pub kept : Kept keys e 1048575
 
@@ -45,11 +45,11 @@ pub record Near (keys scaled : List ℕ) (v plus best k r : ℕ) : Type 0 where
 
 -- what code needs for that
 pub record Nearing (keys scaled : List ℕ) (v plus : ℕ) : Type 0 where
-  pub keys-long : length keys ≡ 4096
-  pub keys-small : (i : ℕ) → get_or keys i 0 ≤ 2099249152
-  pub scaled-long : length scaled ≡ 64
-  pub v-small : v < 64
-  pub plus-small : plus ≤ 2098200575
+  pub keys_long : length keys ≡ 4096
+  pub keys_small : (i : ℕ) → get_or keys i 0 ≤ 2099249152
+  pub scaled_long : length scaled ≡ 64
+  pub v_small : v < 64
+  pub plus_small : plus ≤ 2098200575
   pub enough : (u : ℕ) → u < 64 → get_or scaled u 0 ≤ get_or keys (v * 64 + u) 0 + plus
 
 -- the same under the rules of all blocks with the first k

@@ -10,7 +10,7 @@ Below keys lower upper c e = (s : ℕ → ℕ) → Keeps keys lower upper c s �
 -- e holds each block's lag, on its way down from the upper limits
 pub record State (keys lower upper : List ℕ) (c : ℕ) (e : List ℕ) : Type 0 where
   pub fit : Fit keys lower upper
-  pub e-long : length e ≡ 64
+  pub e_long : length e ≡ 64
   pub most : Below keys lower upper c e
   pub low : (b : ℕ) → b < 64 → get_or lower b 0 ≤ get_or e b 0
   pub high : (b : ℕ) → b < 64 → get_or e b 0 ≤ get_or upper b 0
@@ -34,13 +34,13 @@ pub record Tally (Yes No : ℕ → Type 0) (k r : ℕ) : Type 0 where
 pub record Table (keys : List ℕ) (c : ℕ) : Type 0 where
   pub long : length keys ≡ 4096
   pub small : (i : ℕ) → get_or keys i 0 ≤ 2099249152
-  pub c-small : c < 1048576
+  pub c_small : c < 1048576
 
 pub record Column (keys : List ℕ) (c v ev : ℕ) : Type 0 where
   pub table : Table keys c
-  pub v-small : v < 64
-  pub some-lag : 0 < ev
-  pub lag-small : ev ≤ 33768
+  pub v_small : v < 64
+  pub some_lag : 0 < ev
+  pub lag_small : ev ≤ 33768
 
 -- the rule (u, v) asks block u to be below this
 abbrev pub bar : List ℕ → ℕ → ℕ → ℕ → ℕ → ℕ
@@ -61,8 +61,8 @@ Lowered keys c v ev e e' u =
 
 -- column v was pushed through the first k blocks; of the links nothing need be known
 pub record Pushed (keys : List ℕ) (c v ev : ℕ) (e e' links' : List ℕ) (k : ℕ) : Type 0 where
-  pub e-long : length e' ≡ 64
-  pub links-long : length links' ≡ 64
+  pub e_long : length e' ≡ 64
+  pub links_long : length links' ≡ 64
   pub done : (u : ℕ) → u < k → Lowered keys c v ev e e' u
   pub rest : (u : ℕ) → k ≤ u → get_or e' u 0 ≡ get_or e u 0
   pub less : sum e' ≤ sum e
@@ -74,9 +74,9 @@ Under lower e = Tally (λ u. get_or e u 0 < get_or lower u 0) (λ u. get_or lowe
 -- ---- rounds: a block that stands where it was last seen has all the rules of its column kept
 pub record Going (keys lower upper : List ℕ) (c : ℕ) (e links seen : List ℕ) : Type 0 where
   pub state : State keys lower upper c e
-  pub c-small : c < 1048576
-  pub links-long : length links ≡ 64
-  pub seen-long : length seen ≡ 64
+  pub c_small : c < 1048576
+  pub links_long : length links ≡ 64
+  pub seen_long : length seen ≡ 64
   pub above : (w : ℕ) → w < 64 → get_or e w 0 ≤ get_or seen w 0
   pub quiet : (w : ℕ) → w < 64 → get_or e w 0 ≡ get_or seen w 0 → (u : ℕ) → u < 64 → Stays keys c w (get_or e w 0) e u
 
@@ -92,14 +92,14 @@ pub record Worked (e seen e' seen' : List ℕ) (Idle : Type 0) : Type 0 where
 pub record Stepped (keys lower upper : List ℕ) (c v : ℕ) (e seen e' links' seen' : List ℕ) (r : ℕ) : Type 0 where
   pub on : r ≡ 0 → Going keys lower upper c e' links' seen'
   pub less : r ≡ 0 → Worked e seen e' seen' (get_or e v 0 ≡ get_or seen v 0)
-  pub links-long : length links' ≡ 64
+  pub links_long : length links' ≡ 64
   pub stop : Stop keys lower upper c r
 
 -- the same of the first k blocks
 pub record Rounded (keys lower upper : List ℕ) (c k : ℕ) (e seen e' links' seen' : List ℕ) (r : ℕ) : Type 0 where
   pub on : r ≡ 0 → Going keys lower upper c e' links' seen'
   pub less : r ≡ 0 → Worked e seen e' seen' ((w : ℕ) → w < k → get_or e w 0 ≡ get_or seen w 0)
-  pub links-long : length links' ≡ 64
+  pub links_long : length links' ≡ 64
   pub stop : Stop keys lower upper c r
 
 -- so many of the first k blocks have moved since they were last seen
@@ -109,5 +109,5 @@ Left e seen = Tally (λ w. get_or e w 0 ≡ get_or seen w 0 → ⊥) (λ w. get_
 -- the rounds have ended: at rest, or no lags exist below period r
 pub record Settled (keys lower upper : List ℕ) (c : ℕ) (e links : List ℕ) (r : ℕ) : Type 0 where
   pub rest : r ≡ 0 → AtRest keys lower upper c e
-  pub links-long : length links ≡ 64
+  pub links_long : length links ≡ 64
   pub stop : Stop keys lower upper c r

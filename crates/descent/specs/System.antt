@@ -11,15 +11,15 @@ slack keys c a b = (key keys a b + c) / 1048576
 
 -- the numbers are small enough for code, and the host's lag is 0
 pub record Fit (keys lower upper : List ℕ) : Type 0 where
-  pub keys-long : length keys ≡ 4096
+  pub keys_long : length keys ≡ 4096
   pub lower_long : length lower ≡ 64
   pub upper_long : length upper ≡ 64
-  pub keys-small : (i : ℕ) → get_or keys i 0 ≤ 2099249152
+  pub keys_small : (i : ℕ) → get_or keys i 0 ≤ 2099249152
   pub low : (b : ℕ) → b < 64 → 31768 ≤ get_or lower b 0
   pub ordered : (b : ℕ) → b < 64 → get_or lower b 0 ≤ get_or upper b 0
   pub high : (b : ℕ) → b < 64 → get_or upper b 0 ≤ 33768
-  pub host-lower : get_or lower 0 0 ≡ 32768
-  pub host-upper : get_or upper 0 0 ≡ 32768
+  pub host_lower : get_or lower 0 0 ≡ 32768
+  pub host_upper : get_or upper 0 0 ≡ 32768
 
 -- lags, as excess numbers, that keep every rule at period c and both limits
 pub record Keeps (keys lower upper : List ℕ) (c : ℕ) (s : ℕ → ℕ) : Type 0 where

@@ -2,7 +2,7 @@
 -- A path's key is its registers and one, times 1,048,576, less its delay: the lower, the fewer registers, then the longer.
 use Rattle.std.specs.Prelude.{◌≡◌, ◌⊎◌, List, ℕ, ◌+◌, ◌*◌, ◌-◌, ◌≤◌, ◌<◌, length, get_or}
 use Rattle.sheet.specs.Core.{Shape}
-use Rattle.paths.specs.Path.{Joins, registersOn, delayOn}
+use Rattle.paths.specs.Path.{Joins, registers_on, delay_on}
 use Rattle.paths.specs.Table.{Way}
 
 -- the entry of the pair u, v: all start blocks u of one end block v stand together
@@ -16,12 +16,12 @@ Loose k = 2098200576 ≤ k
 module _ (s : Shape) (w : ℕ → ℕ) where
   -- for each of its registers and one, a path takes at most 640,000: its key is far above 0
   pub record Slow : Type 0 where
-    pub bound : (u v : ℕ) (ws : List ℕ) → Joins s u ws v → delayOn s u ws ≤ (registersOn w ws + 1) * 640000
+    pub bound : (u v : ℕ) (ws : List ℕ) → Joins s u ws v → delay_on s u ws ≤ (registers_on w ws + 1) * 640000
 
   -- k is the least key of the paths from u to v, as far as there are any with 2,000 registers or fewer
   pub record KeyRight (u v k : ℕ) : Type 0 where
     pub small : k ≤ 2099249152
-    pub least : (ws : List ℕ) → Joins s u ws v → k + delayOn s u ws ≤ (registersOn w ws + 1) * 1048576
+    pub least : (ws : List ℕ) → Joins s u ws v → k + delay_on s u ws ≤ (registers_on w ws + 1) * 1048576
     pub real : Loose k ⊎ ((W : ℕ) × (D : ℕ) × Way s w u v W D × (k + D ≡ (W + 1) * 1048576))
 
   -- the filled table; the places of blocks that the core does not have stand for no path
@@ -47,6 +47,6 @@ pub record Turns (m : ℕ) (turns : List ℕ) : Type 0 where
 
 -- the ends of the wires, as an order of them reads it
 pub record Ends (m : ℕ) (to : List ℕ) : Type 0 where
-  pub few-wires : m ≤ 256
+  pub few_wires : m ≤ 256
   pub long : length to ≡ 256
   pub block : (j : ℕ) → j < m → get_or to j 0 < 64

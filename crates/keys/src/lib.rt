@@ -1,6 +1,6 @@
 // The path table as one key for each pair of blocks, filled for all start blocks at once.
 ghost use Rattle.std.specs.Prelude.{◌≡◌, ℕ, ◌+◌, ◌*◌, ◌-◌, ◌<◌, length};
-ghost use Rattle.paths.specs.Lists.{held, listShape, Wires, Delays};
+ghost use Rattle.paths.specs.Lists.{held, list_shape, Wires, Delays};
 ghost use Rattle.keys.specs.Keys.{Slow, Keyed, Folded, Turns};
 
 use crate::lanes::blank;
@@ -23,8 +23,8 @@ pub fn fill_keys(
     turns: &[usize; 256],
     keys: &mut [u32; 4096],
 )
-    requires { Wires n m from.now to.now registers.now × Delays n delays.now × Turns m turns.now × Slow (listShape n m delays.now from.now to.now) (held registers.now) }
-    ensures { Keyed (listShape n m delays.now from.now to.now) (held registers.now) keys.new }
+    requires { Wires n m from.now to.now registers.now × Delays n delays.now × Turns m turns.now × Slow (list_shape n m delays.now from.now to.now) (held registers.now) }
+    ensures { Keyed (list_shape n m delays.now from.now to.now) (held registers.now) keys.new }
 {
     blank(n, delays, keys);
     let mut versions = [1usize; 64];

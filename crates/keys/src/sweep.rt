@@ -1,7 +1,7 @@
 // One sweep over the wires: a wire is tried where the row of its start changed since it was last tried.
 // Rows have versions, and each wire the version of its start's row that it has seen.
 ghost use Rattle.std.specs.Prelude.{◌≡◌, ℕ, ◌*◌, ◌<◌, length};
-ghost use Rattle.paths.specs.Lists.{held, listShape, Wires, Delays};
+ghost use Rattle.paths.specs.Lists.{held, list_shape, Wires, Delays};
 ghost use Rattle.keys.specs.Keys.{Slow, Turns};
 ghost use Rattle.keys.specs.Filling.{Within, Counts, News, Stepped, Settling, Swept};
 
@@ -59,9 +59,9 @@ pub fn sweep(
     seen: &mut [usize; 256],
     keys: &mut [u32; 4096],
 ) -> u32
-    requires wires { Wires n m from.now to.now registers.now × Delays n delays.now × Turns m turns.now × Slow (listShape n m delays.now from.now to.now) (held registers.now) }
-    requires settling { Settling (listShape n m delays.now from.now to.now) (held registers.now) versions.old seen.old keys.old }
-    ensures { Swept (listShape n m delays.now from.now to.now) (held registers.now) keys.old versions.new seen.new keys.new result }
+    requires wires { Wires n m from.now to.now registers.now × Delays n delays.now × Turns m turns.now × Slow (list_shape n m delays.now from.now to.now) (held registers.now) }
+    requires settling { Settling (list_shape n m delays.now from.now to.now) (held registers.now) versions.old seen.old keys.old }
+    ensures { Swept (list_shape n m delays.now from.now to.now) (held registers.now) keys.old versions.new seen.new keys.new result }
 {
     let mut changed: u32 = 0;
     let mut p: usize = 0;

@@ -2,10 +2,10 @@
 ghost use Rattle.std.specs.Prelude.{◌≡◌};
 ghost use Rattle.sheet.specs.Rules.{answer};
 ghost use Rattle.paths.specs.Questions.{CheckRight};
-ghost use Rattle.tables.specs.Questions.{TableRight, tableOutcome};
-ghost use Rattle.moves.specs.Move.{MoveRight, moveOutcome};
+ghost use Rattle.tables.specs.Questions.{TableRight, table_outcome};
+ghost use Rattle.moves.specs.Move.{MoveRight, move_outcome};
 ghost use Rattle.loops.specs.Loop.{LoopRight};
-ghost use Rattle.promises.specs.Questions.{PeriodRight, LagsRight, BestRight, lagsOutcome};
+ghost use Rattle.promises.specs.Questions.{PeriodRight, LagsRight, BestRight, lags_outcome};
 
 use sheet::answer::Answer;
 
@@ -43,7 +43,7 @@ pub extern "C" fn lez_path_table(
     place: &mut u32,
     value: &mut u32,
 ) -> u32
-    ensures { TableRight sheet.now registers.old delays.old (tableOutcome (answer result place.new value.new) registers.new delays.new) }
+    ensures { TableRight sheet.now registers.old delays.old (table_outcome (answer result place.new value.new) registers.new delays.new) }
 {
     hand_over(tables::path_table(sheet, registers, delays), place, value)
 }
@@ -57,7 +57,7 @@ pub extern "C" fn lez_move(
     place: &mut u32,
     value: &mut u32,
 ) -> u32
-    ensures { MoveRight sheet.now lags.now moved.old (moveOutcome (answer result place.new value.new) moved.new) }
+    ensures { MoveRight sheet.now lags.now moved.old (move_outcome (answer result place.new value.new) moved.new) }
 {
     hand_over(moves::move_by(sheet, lags, moved), place, value)
 }
@@ -72,7 +72,7 @@ pub extern "C" fn lez_lags_at(
     place: &mut u32,
     value: &mut u32,
 ) -> u32
-    ensures { LagsRight sheet.now c lags.old words.old (lagsOutcome (answer result place.new value.new) lags.new words.new) }
+    ensures { LagsRight sheet.now c lags.old words.old (lags_outcome (answer result place.new value.new) lags.new words.new) }
 {
     hand_over(periods::lags_at(sheet, c, lags, words), place, value)
 }
@@ -86,7 +86,7 @@ pub extern "C" fn lez_best(
     place: &mut u32,
     value: &mut u32,
 ) -> u32
-    ensures { BestRight sheet.now lags.old words.old (lagsOutcome (answer result place.new value.new) lags.new words.new) }
+    ensures { BestRight sheet.now lags.old words.old (lags_outcome (answer result place.new value.new) lags.new words.new) }
 {
     hand_over(periods::best(sheet, lags, words), place, value)
 }

@@ -1,9 +1,9 @@
 -- What each reader of a loop's words gives, case by case.
 use Rattle.std.specs.Prelude.{◌≡◌, ◌⊎◌, List, ◌∷◌, ◌++◌, ℕ, ◌+◌, ◌*◌, ◌<◌, ◌≤◌, length, take, drop}
-use Rattle.sheet.specs.Core.{core_of, shape_of, blocksIn, wiresIn, delayIn, fromIn, toIn, registersIn}
+use Rattle.sheet.specs.Core.{core_of, shape_of, blocks_in, wires_in, delay_in, from_in, to_in, registers_in}
 use Rattle.sheet.specs.Laws.Integer.{up, down}
-use Rattle.paths.specs.Path.{Joins, registersOn, delayOn, end_of}
-use Rattle.loops.specs.Link.{Link, wire, path, upper, lower, ceiling, words_of, allWords, linkA, linkB, linkK, Good, Chain, sumK}
+use Rattle.paths.specs.Path.{Joins, registers_on, delay_on, end_of}
+use Rattle.loops.specs.Link.{Link, wire, path, upper, lower, ceiling, words_of, all_words, link_a, link_b, link_k, Good, Chain, sum_k}
 use Rattle.loops.specs.declared.link.Link as D
 use Rattle.loops.specs.declared.link.Link.TheVariants as L
 use Rattle.loops.specs.declared.link.Head.{Head}
@@ -41,9 +41,9 @@ pub record LinkIs (s : List ℕ) (p : ℕ) (words : List ℕ) (at : ℕ) (r : Re
   pub link : Link
   pub spelt : Spelt words at r.next link
   pub good : Good (core_of s) p link
-  pub a-is : r.a ≡ linkA (core_of s) link
-  pub b-is : r.b ≡ linkB (core_of s) link
-  pub k-is : r.k + down (linkK (core_of s) link) ≡ up (linkK (core_of s) link) + 32768
+  pub a_is : r.a ≡ link_a (core_of s) link
+  pub b_is : r.b ≡ link_b (core_of s) link
+  pub k_is : r.k + down (link_k (core_of s) link) ≡ up (link_k (core_of s) link) + 32768
   pub small : r.k + 18384 * at ≤ 18384 * r.next
 
 abbrev pub LinkGiven : List ℕ → ℕ → List ℕ → ℕ → LinkRead → Type 0
@@ -63,24 +63,24 @@ BlockSettled s at kind b r = Settled s at (L.Block kind b) r
 -- ---- the wires of a path
 -- wire j leads on from block `here` to block t, with its registers and that block's delay
 pub record StepIs (s : List ℕ) (here j t w d : ℕ) : Type 0 where
-  pub wire : j < wiresIn s
-  pub joins : fromIn s j ≡ here
-  pub to_is : t ≡ toIn s j
-  pub registers-is : w ≡ registersIn s j
-  pub delay-is : d ≡ delayIn s t
-  pub block : t < blocksIn s
+  pub wire : j < wires_in s
+  pub joins : from_in s j ≡ here
+  pub to_is : t ≡ to_in s j
+  pub registers_is : w ≡ registers_in s j
+  pub delay_is : d ≡ delay_in s t
+  pub block : t < blocks_in s
   pub few : w ≤ 2000
   pub short : d ≤ 10000
 
 abbrev pub StepGiven : List ℕ → ℕ → ℕ → Step → Type 0
 StepGiven s here j (S.To t w d) = StepIs s here j t w d
-StepGiven s here j S.Refused = j < wiresIn s → fromIn s j ≡ here → ⊥
+StepGiven s here j S.Refused = j < wires_in s → from_in s j ≡ here → ⊥
 
 -- the first i of the wires ws lead from block u to block `here`
 pub record Followed (s ws : List ℕ) (u i here registers delay : ℕ) : Type 0 where
   pub joins : Joins (shape_of s) u (take i ws) here
-  pub registers-is : registers ≡ registersOn (registersIn s) (take i ws)
-  pub delay-is : delay ≡ delayOn (shape_of s) u (take i ws)
+  pub registers_is : registers ≡ registers_on (registers_in s) (take i ws)
+  pub delay_is : delay ≡ delay_on (shape_of s) u (take i ws)
   pub few : registers ≤ 2000 * i
   pub short : delay ≤ 10000 * i + 10000
 
@@ -94,9 +94,9 @@ FollowGiven s ws u count S.Refused = Joins (shape_of s) u (take count ws) (end_o
 pub record Chained (s : List ℕ) (p : ℕ) (words : List ℕ) (first last sum links at : ℕ) : Type 0 where
   pub head : Link
   pub tail : List Link
-  pub words_are : words ≡ allWords (head ∷ tail) ++ drop at words
+  pub words_are : words ≡ all_words (head ∷ tail) ++ drop at words
   pub chain : Chain (core_of s) p first (head ∷ tail) last
-  pub sum_is : sum + down (sumK (core_of s) (head ∷ tail)) ≡ up (sumK (core_of s) (head ∷ tail)) + 32768 * links
+  pub sum_is : sum + down (sum_k (core_of s) (head ∷ tail)) ≡ up (sum_k (core_of s) (head ∷ tail)) + 32768 * links
   pub few : 2 * links ≤ at
   pub small : sum ≤ 18384 * at
   pub within : at ≤ length words

@@ -1,11 +1,11 @@
 // Loops that prove a refusal: links, the loop check, what a loop rules out; the question check a loop.
 ghost use Rattle.std.specs.Prelude.{◌≡◌, ◌≤◌, length};
-ghost use Rattle.sheet.specs.Core.{core_of, blocksIn, wiresIn};
+ghost use Rattle.sheet.specs.Core.{core_of, blocks_in, wires_in};
 ghost use Rattle.sheet.specs.Rules.{First, Told};
 ghost use Rattle.sheet.specs.Sheet.{Framed, FormedSheet};
 ghost use Rattle.loops.specs.Link.{ValidLoop};
 ghost use Rattle.loops.specs.Reads.{LinkIs};
-ghost use Rattle.loops.specs.Loop.{LoopRight, loopAfterFrame};
+ghost use Rattle.loops.specs.Loop.{LoopRight, loop_after_frame};
 
 use crate::link::{LinkRead, Read};
 use crate::read::read_link;
@@ -18,7 +18,7 @@ mod read; // one link
 
 // Whether the links after the first go on from it, come back to its a, and add up to less than 0 with it.
 fn closes(s: &[u8], n: usize, m: usize, c: u32, words: &[u16], first: Read) -> bool
-    requires { FormedSheet s.now × (n ≡ blocksIn s.now) × (m ≡ wiresIn s.now) × (length words.now ≤ 4224) × LinkIs s.now c words.now 0 first }
+    requires { FormedSheet s.now × (n ≡ blocks_in s.now) × (m ≡ wires_in s.now) × (length words.now ≤ 4224) × LinkIs s.now c words.now 0 first }
     ensures { Told (ValidLoop (core_of s.now) c words.now) result }
 {
     let mut last = first.b;
@@ -48,7 +48,7 @@ fn closes(s: &[u8], n: usize, m: usize, c: u32, words: &[u16], first: Read) -> b
 
 // Whether the words are a valid loop of a formed sheet.
 fn valid(s: &[u8], n: usize, m: usize, c: u32, words: &[u16]) -> bool
-    requires { FormedSheet s.now × (n ≡ blocksIn s.now) × (m ≡ wiresIn s.now) }
+    requires { FormedSheet s.now × (n ≡ blocks_in s.now) × (m ≡ wires_in s.now) }
     ensures { Told (ValidLoop (core_of s.now) c words.now) result }
 {
     if words.len() > 4224 {
@@ -62,8 +62,8 @@ fn valid(s: &[u8], n: usize, m: usize, c: u32, words: &[u16]) -> bool
 
 // Check a loop against a sheet whose header is right.
 fn loop_framed(s: &[u8], n: usize, m: usize, c: u32, words: &[u16]) -> Answer
-    requires { Framed s.now × (n ≡ blocksIn s.now) × (m ≡ wiresIn s.now) }
-    ensures { First (loopAfterFrame s.now c words.now) result }
+    requires { Framed s.now × (n ≡ blocks_in s.now) × (m ≡ wires_in s.now) }
+    ensures { First (loop_after_frame s.now c words.now) result }
 {
     if let Stage::Refuse(a) = paths::sound::check_sound(s, n, m) {
         return a;

@@ -1,6 +1,6 @@
 // A link of kind 2: a path, wire by wire.
 ghost use Rattle.std.specs.Prelude.{◌≡◌, ◌+◌, ◌≤◌, length, drop};
-ghost use Rattle.sheet.specs.Core.{blocksIn, wiresIn};
+ghost use Rattle.sheet.specs.Core.{blocks_in, wires_in};
 ghost use Rattle.sheet.specs.Sheet.{FormedSheet};
 ghost use Rattle.loops.specs.Reads.{StepGiven, FollowGiven, PathHead, LinkGiven};
 
@@ -17,7 +17,7 @@ pub enum Step {
 
 // Wire j out of block `here`.
 fn lead(s: &[u8], n: usize, m: usize, here: usize, j: usize) -> Step
-    requires { FormedSheet s.now × (n ≡ blocksIn s.now) × (m ≡ wiresIn s.now) }
+    requires { FormedSheet s.now × (n ≡ blocks_in s.now) × (m ≡ wires_in s.now) }
     ensures { StepGiven s.now here j result }
 {
     if j >= m {
@@ -45,7 +45,7 @@ fn follow(
     start: usize,
     count: usize,
 ) -> Step
-    requires { FormedSheet s.now × (n ≡ blocksIn s.now) × (m ≡ wiresIn s.now) × (from + count ≤ length words.now) × (length words.now ≤ 4224) }
+    requires { FormedSheet s.now × (n ≡ blocks_in s.now) × (m ≡ wires_in s.now) × (from + count ≤ length words.now) × (length words.now ≤ 4224) }
     ensures { FollowGiven s.now (drop from words.now) start count result }
 {
     if start >= n {
@@ -81,7 +81,7 @@ pub fn path_link(
     start: usize,
     count: usize,
 ) -> LinkRead
-    requires { FormedSheet s.now × (n ≡ blocksIn s.now) × (m ≡ wiresIn s.now) × (length words.now ≤ 4224) × PathHead words.now at start count }
+    requires { FormedSheet s.now × (n ≡ blocks_in s.now) × (m ≡ wires_in s.now) × (length words.now ≤ 4224) × PathHead words.now at start count }
     ensures { LinkGiven s.now c words.now at result }
 {
     let Step::To(end, registers, delay) = follow(s, n, m, words, at + 3, start, count) else {

@@ -1,6 +1,6 @@
 // One link of a loop: its words, its ends and its k.
 ghost use Rattle.std.specs.Prelude.{◌≡◌, ◌≤◌, length};
-ghost use Rattle.sheet.specs.Core.{blocksIn, wiresIn};
+ghost use Rattle.sheet.specs.Core.{blocks_in, wires_in};
 ghost use Rattle.sheet.specs.Sheet.{FormedSheet};
 ghost use Rattle.loops.specs.Reads.{WireSettled, BlockSettled, LinkGiven};
 
@@ -11,7 +11,7 @@ use sheet::wire::{WireRead, read_wire};
 
 // Kind 1: the wire keeps 0 registers or more. Kind 5: it keeps 2,000 or fewer.
 fn wire_link(s: &[u8], n: usize, m: usize, at: usize, kind: usize, j: usize) -> LinkRead
-    requires { FormedSheet s.now × (n ≡ blocksIn s.now) × (m ≡ wiresIn s.now) × (at ≤ 4224) }
+    requires { FormedSheet s.now × (n ≡ blocks_in s.now) × (m ≡ wires_in s.now) × (at ≤ 4224) }
     ensures { WireSettled s.now at kind j result }
 {
     if j >= m {
@@ -42,7 +42,7 @@ fn wire_link(s: &[u8], n: usize, m: usize, at: usize, kind: usize, j: usize) -> 
 
 // Kind 3: the block's upper lag. Kind 4: its lower lag.
 fn block_link(s: &[u8], n: usize, at: usize, kind: usize, b: usize) -> LinkRead
-    requires { FormedSheet s.now × (n ≡ blocksIn s.now) × (at ≤ 4224) }
+    requires { FormedSheet s.now × (n ≡ blocks_in s.now) × (at ≤ 4224) }
     ensures { BlockSettled s.now at kind b result }
 {
     if b >= n {
@@ -73,7 +73,7 @@ fn block_link(s: &[u8], n: usize, at: usize, kind: usize, b: usize) -> LinkRead
 
 // The link whose words begin at `at`.
 pub fn read_link(s: &[u8], n: usize, m: usize, c: u32, words: &[u16], at: usize) -> LinkRead
-    requires { FormedSheet s.now × (n ≡ blocksIn s.now) × (m ≡ wiresIn s.now) × (at ≤ length words.now) × (length words.now ≤ 4224) }
+    requires { FormedSheet s.now × (n ≡ blocks_in s.now) × (m ≡ wires_in s.now) × (at ≤ length words.now) × (length words.now ≤ 4224) }
     ensures { LinkGiven s.now c words.now at result }
 {
     let Head::Known(link) = head_at(words, at) else {

@@ -1,11 +1,11 @@
 // Whether lags are permitted: refusals 8 and 9.
 ghost use Rattle.std.specs.Prelude.{◌≡◌, ◌<◌, ◌≤◌, pos, length, get_or};
-ghost use Rattle.sheet.specs.Core.{core_of, blocksIn, wiresIn};
+ghost use Rattle.sheet.specs.Core.{core_of, blocks_in, wires_in};
 ghost use Rattle.sheet.specs.Reads.{ExcessIs};
 ghost use Rattle.sheet.specs.Rules.{FirstOf, Staged, Told};
 ghost use Rattle.sheet.specs.Sheet.{FormedSheet};
-ghost use Rattle.moves.specs.Lags.{lagsIn, InRange, Fits};
-ghost use Rattle.moves.specs.Move.{lagRules};
+ghost use Rattle.moves.specs.Lags.{lags_in, InRange, Fits};
+ghost use Rattle.moves.specs.Move.{lag_rules};
 
 use sheet::answer::{Stage, refusal};
 use sheet::block::{BlockRead, read_block};
@@ -21,8 +21,8 @@ pub fn lag_at(lags: &[i16], b: usize) -> u32
 }
 
 fn in_range(s: &[u8], lags: &[i16], b: usize) -> bool
-    requires { FormedSheet s.now × (b < blocksIn s.now) × (blocksIn s.now ≤ length lags.now) }
-    ensures { Told (InRange (core_of s.now) (lagsIn lags.now) b) result }
+    requires { FormedSheet s.now × (b < blocks_in s.now) × (blocks_in s.now ≤ length lags.now) }
+    ensures { Told (InRange (core_of s.now) (lags_in lags.now) b) result }
 {
     let BlockRead::Block(_, lower, upper) = read_block(s, b) else {
         return false;
@@ -38,8 +38,8 @@ fn in_range(s: &[u8], lags: &[i16], b: usize) -> bool
 }
 
 fn wire_fits(s: &[u8], n: usize, lags: &[i16], j: usize) -> bool
-    requires { FormedSheet s.now × (n ≡ blocksIn s.now) × (j < wiresIn s.now) × (n ≤ length lags.now) }
-    ensures { Told (Fits (core_of s.now) (lagsIn lags.now) j) result }
+    requires { FormedSheet s.now × (n ≡ blocks_in s.now) × (j < wires_in s.now) × (n ≤ length lags.now) }
+    ensures { Told (Fits (core_of s.now) (lags_in lags.now) j) result }
 {
     let WireRead::Wire(f, t, w) = read_wire(s, n, j) else {
         return false;
@@ -57,8 +57,8 @@ fn wire_fits(s: &[u8], n: usize, lags: &[i16], j: usize) -> bool
 
 // The first block whose lag is outside its range, or n.
 fn first_out_of_range(s: &[u8], n: usize, lags: &[i16]) -> usize
-    requires { FormedSheet s.now × (n ≡ blocksIn s.now) × (n ≤ length lags.now) }
-    ensures { FirstOf (λ b. InRange (core_of s.now) (lagsIn lags.now) b → ⊥) n result }
+    requires { FormedSheet s.now × (n ≡ blocks_in s.now) × (n ≤ length lags.now) }
+    ensures { FirstOf (λ b. InRange (core_of s.now) (lags_in lags.now) b → ⊥) n result }
 {
     let mut b = 0;
     while b < n {
@@ -72,8 +72,8 @@ fn first_out_of_range(s: &[u8], n: usize, lags: &[i16]) -> usize
 
 // The first wire that would leave its limits, or m.
 fn first_misfit(s: &[u8], n: usize, m: usize, lags: &[i16]) -> usize
-    requires { FormedSheet s.now × (n ≡ blocksIn s.now) × (m ≡ wiresIn s.now) × (n ≤ length lags.now) }
-    ensures { FirstOf (λ j. Fits (core_of s.now) (lagsIn lags.now) j → ⊥) m result }
+    requires { FormedSheet s.now × (n ≡ blocks_in s.now) × (m ≡ wires_in s.now) × (n ≤ length lags.now) }
+    ensures { FirstOf (λ j. Fits (core_of s.now) (lags_in lags.now) j → ⊥) m result }
 {
     let mut j = 0;
     while j < m {
@@ -87,8 +87,8 @@ fn first_misfit(s: &[u8], n: usize, m: usize, lags: &[i16]) -> usize
 
 // Refusals 8 and 9 of a formed sheet.
 pub fn check_lags(s: &[u8], n: usize, m: usize, lags: &[i16]) -> Stage
-    requires { FormedSheet s.now × (n ≡ blocksIn s.now) × (m ≡ wiresIn s.now) × (n ≤ length lags.now) }
-    ensures { Staged (lagRules s.now (lagsIn lags.now)) result }
+    requires { FormedSheet s.now × (n ≡ blocks_in s.now) × (m ≡ wires_in s.now) × (n ≤ length lags.now) }
+    ensures { Staged (lag_rules s.now (lags_in lags.now)) result }
 {
     let b = first_out_of_range(s, n, lags);
     if b < n {

@@ -1,9 +1,9 @@
 // Lags and moves: permitted lags, the moved sheet, what moving leaves unchanged; the question move.
 ghost use Rattle.std.specs.Prelude.{◌≡◌};
-ghost use Rattle.sheet.specs.Core.{blocksIn, wiresIn};
+ghost use Rattle.sheet.specs.Core.{blocks_in, wires_in};
 ghost use Rattle.sheet.specs.Rules.{First};
 ghost use Rattle.sheet.specs.Sheet.{Framed};
-ghost use Rattle.moves.specs.Move.{MoveRight, moveAfterFrame, moveOutcome};
+ghost use Rattle.moves.specs.Move.{MoveRight, move_after_frame, move_outcome};
 
 use sheet::answer::{Answer, Stage, done, refusal};
 use sheet::frame::{Frame, read_frame};
@@ -13,8 +13,8 @@ mod write; // the moved sheet is written
 
 // The move of a sheet whose header is right.
 fn move_framed(s: &[u8], n: usize, m: usize, lags: &[i16], moved: &mut [u8]) -> Answer
-    requires { Framed s.now × (n ≡ blocksIn s.now) × (m ≡ wiresIn s.now) }
-    ensures { First (moveAfterFrame s.now lags.now moved.old) (moveOutcome result moved.new) }
+    requires { Framed s.now × (n ≡ blocks_in s.now) × (m ≡ wires_in s.now) }
+    ensures { First (move_after_frame s.now lags.now moved.old) (move_outcome result moved.new) }
 {
     if lags.len() < n {
         return refusal(4, 0);
@@ -34,7 +34,7 @@ fn move_framed(s: &[u8], n: usize, m: usize, lags: &[i16], moved: &mut [u8]) -> 
 
 // The sheet moved by a list of lags, in the first bytes of a lent list.
 pub fn move_by(sheet: &[u8], lags: &[i16], moved: &mut [u8]) -> Answer
-    ensures { MoveRight sheet.now lags.now moved.old (moveOutcome result moved.new) }
+    ensures { MoveRight sheet.now lags.now moved.old (move_outcome result moved.new) }
 {
     match read_frame(sheet) {
         Frame::Refused(a) => a,

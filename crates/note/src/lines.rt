@@ -1,6 +1,6 @@
 // The note of a sheet that was answered, line by line.
 ghost use Rattle.std.specs.Prelude.{◌≡◌, ◌+◌, ◌*◌, ◌≤◌, length};
-ghost use Rattle.sheet.specs.Core.{blocksIn};
+ghost use Rattle.sheet.specs.Core.{blocks_in};
 
 use records::out::{byte, next_lag, next_number, text};
 use sheet::wire::{WireRead, read_wire};
@@ -37,7 +37,7 @@ fn lag_lines(out: &mut [u8; 4096], used: &mut usize, lags: &[i16; 64], n: usize)
 
 // The sheet is sound by the answers before and the moved sheet by the move's promise, so that neither wire is refused.
 fn wire_line(out: &mut [u8; 4096], used: &mut usize, sheet: &[u8], moved: &[u8], n: usize, j: usize)
-    requires { (n ≤ 64) × (j ≤ 256) × (n ≡ blocksIn sheet.now) × (n ≡ blocksIn moved.now) × (24 + 8 * n + 8 * j ≤ length sheet.now) × (24 + 8 * n + 8 * j ≤ length moved.now) }
+    requires { (n ≤ 64) × (j ≤ 256) × (n ≡ blocks_in sheet.now) × (n ≡ blocks_in moved.now) × (24 + 8 * n + 8 * j ≤ length sheet.now) × (24 + 8 * n + 8 * j ≤ length moved.now) }
 {
     let WireRead::Wire(from, to, before) = read_wire(sheet, n, j) else {
         return;
@@ -63,7 +63,7 @@ fn wire_lines(
     n: usize,
     m: usize,
 )
-    requires { (n ≤ 64) × (m ≤ 256) × (n ≡ blocksIn sheet.now) × (n ≡ blocksIn moved.now) × (16 + 8 * n + 8 * m ≤ length sheet.now) × (16 + 8 * n + 8 * m ≤ length moved.now) }
+    requires { (n ≤ 64) × (m ≤ 256) × (n ≡ blocks_in sheet.now) × (n ≡ blocks_in moved.now) × (16 + 8 * n + 8 * m ≤ length sheet.now) × (16 + 8 * n + 8 * m ≤ length moved.now) }
 {
     for j in 0..m {
         wire_line(out, used, sheet, moved, n, j);
@@ -82,7 +82,7 @@ pub fn lines(
     standing: u32,
     best: u32,
 )
-    requires { (n ≤ 64) × (m ≤ 256) × (n ≡ blocksIn sheet.now) × (n ≡ blocksIn moved.now) × (16 + 8 * n + 8 * m ≤ length sheet.now) × (16 + 8 * n + 8 * m ≤ length moved.now) }
+    requires { (n ≤ 64) × (m ≤ 256) × (n ≡ blocks_in sheet.now) × (n ≡ blocks_in moved.now) × (16 + 8 * n + 8 * m ≤ length sheet.now) × (16 + 8 * n + 8 * m ≤ length moved.now) }
 {
     head_lines(out, used, n, m, standing, best);
     lag_lines(out, used, lags, n);

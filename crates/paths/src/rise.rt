@@ -1,7 +1,7 @@
 // Heights over the register-free wires: the longest register-free path into each block, found in sweeps over those wires
 // alone. Where a sweep changes nothing, and each block has a delay, no loop is register-free.
 ghost use Rattle.std.specs.Prelude.{◌≡◌, ℕ, ◌+◌, ◌*◌, ◌<◌, ◌≤◌, length, get_or};
-ghost use Rattle.paths.specs.Lists.{held, listShape, Wires, Delays};
+ghost use Rattle.paths.specs.Lists.{held, list_shape, Wires, Delays};
 ghost use Rattle.paths.specs.Table.{LoopAt, Period};
 ghost use Rattle.paths.specs.Rise.{Listed, Lifted, Highest, Heights, Swept, Risen};
 
@@ -63,8 +63,8 @@ fn sweep(
     heights: &mut [u32; 64],
 ) -> usize
     requires wires { Wires n m from.now to.now registers.now × Delays n delays.now × Listed (held registers.now) m k list.now × (done ≤ 64) }
-    requires heights { Heights (listShape n m delays.now from.now to.now) (held registers.now) (256 * done) heights.old }
-    ensures { Swept (listShape n m delays.now from.now to.now) (held registers.now) (256 * (done + 1)) heights.old heights.new result }
+    requires heights { Heights (list_shape n m delays.now from.now to.now) (held registers.now) (256 * done) heights.old }
+    ensures { Swept (list_shape n m delays.now from.now to.now) (held registers.now) (256 * (done + 1)) heights.old heights.new result }
 {
     let mut changed: usize = 0;
     let mut i: usize = 0;
@@ -106,7 +106,7 @@ pub fn rise(
     heights: &mut [u32; 64],
 ) -> bool
     requires { Wires n m from.now to.now registers.now × Delays n delays.now }
-    ensures { Risen (listShape n m delays.now from.now to.now) (held registers.now) limit heights.new result }
+    ensures { Risen (list_shape n m delays.now from.now to.now) (held registers.now) limit heights.new result }
 {
     let mut forth = [0usize; 256];
     let mut back = [0usize; 256];
@@ -140,8 +140,8 @@ pub fn longest_free(
     registers: &[u32; 256],
 ) -> u32
     requires wires { Wires n m from.now to.now registers.now × Delays n delays.now }
-    requires by_index { (b : ℕ) → LoopAt (listShape n m delays.now from.now to.now) (held registers.now) b → ⊥ }
-    ensures { Period (listShape n m delays.now from.now to.now) (held registers.now) result }
+    requires by_index { (b : ℕ) → LoopAt (list_shape n m delays.now from.now to.now) (held registers.now) b → ⊥ }
+    ensures { Period (list_shape n m delays.now from.now to.now) (held registers.now) result }
 {
     let mut heights = [0u32; 64];
     rise(n, m, delays, from, to, registers, 4294967295, &mut heights);

@@ -1,9 +1,9 @@
 // Refusals 5, 6 and 7 of a sheet that 1, 2 and 3 pass.
 ghost use Rattle.std.specs.Prelude.{◌≡◌};
-ghost use Rattle.sheet.specs.Core.{blocksIn, wiresIn};
+ghost use Rattle.sheet.specs.Core.{blocks_in, wires_in};
 ghost use Rattle.sheet.specs.Rules.{Staged};
 ghost use Rattle.sheet.specs.Sheet.{Framed, FormedSheet};
-ghost use Rattle.paths.specs.Questions.{loopRules, soundRules};
+ghost use Rattle.paths.specs.Questions.{loop_rules, sound_rules};
 
 use crate::loops::first_loop;
 use crate::rise::rise;
@@ -14,8 +14,8 @@ use sheet::load::load_wires;
 // With delays of 1, heights that settle show that there is no loop, and one above n can stop the sweeps: it is on the way
 // round a loop. Only where they do not settle is the first loop searched for.
 fn check_loops(s: &[u8], n: usize, m: usize) -> Stage
-    requires { FormedSheet s.now × (n ≡ blocksIn s.now) × (m ≡ wiresIn s.now) }
-    ensures { Staged (loopRules s.now) result }
+    requires { FormedSheet s.now × (n ≡ blocks_in s.now) × (m ≡ wires_in s.now) }
+    ensures { Staged (loop_rules s.now) result }
 {
     let mut from = [0usize; 256];
     let mut to = [0usize; 256];
@@ -34,8 +34,8 @@ fn check_loops(s: &[u8], n: usize, m: usize) -> Stage
 }
 
 pub fn check_sound(s: &[u8], n: usize, m: usize) -> Stage
-    requires { Framed s.now × (n ≡ blocksIn s.now) × (m ≡ wiresIn s.now) }
-    ensures { Staged (soundRules s.now) result }
+    requires { Framed s.now × (n ≡ blocks_in s.now) × (m ≡ wires_in s.now) }
+    ensures { Staged (sound_rules s.now) result }
 {
     if let Stage::Refuse(a) = check_entries(s, n, m) {
         return Stage::Refuse(a);

@@ -1,6 +1,6 @@
 -- The quick way to lags: what the descent found for a question, and what that says of the sheet.
 use Rattle.std.specs.Prelude.{◌≡◌, List, ℕ, ◌<◌, min, length, get_or}
-use Rattle.sheet.specs.Lag.{lagOf}
+use Rattle.sheet.specs.Lag.{lag_of}
 use Rattle.sheet.specs.Core.{core_of}
 use Rattle.descent.specs.System.{Keeps}
 use Rattle.descent.specs.State.{AtRest}
@@ -26,8 +26,8 @@ pub record Lags (e : List ℕ) : Type 0 where
 
 -- on a sheet: the lags in e and the value answer the question, or there was nothing to find
 abbrev pub Answers : List ℕ → Aim → List ℕ → Found → Type 0
-Answers s (A.At c) e (F.Lags value) = Lags e × Largest (core_of s) c (λ b. lagOf (get_or e b 0)) × (value ≡ 0)
-Answers s A.Least e (F.Lags value) = Lags e × Largest (core_of s) value (λ b. lagOf (get_or e b 0)) × Least (core_of s) value
+Answers s (A.At c) e (F.Lags value) = Lags e × Largest (core_of s) c (λ b. lag_of (get_or e b 0)) × (value ≡ 0)
+Answers s A.Least e (F.Lags value) = Lags e × Largest (core_of s) value (λ b. lag_of (get_or e b 0)) × Least (core_of s) value
 Answers s aim e F.Nothing = Hopeless s aim
 
 pub record Quick (s : List ℕ) (aim : Aim) (e : List ℕ) (found : Found) : Type 0 where

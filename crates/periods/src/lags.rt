@@ -1,11 +1,11 @@
 // The two lag questions, once the header is right: the quick way to lags, and the loop of a refusal where it finds none.
 ghost use Rattle.std.specs.Prelude.{◌≡◌, ◌+◌, ◌*◌, ◌≤◌, length};
-ghost use Rattle.sheet.specs.Core.{blocksIn, wiresIn};
+ghost use Rattle.sheet.specs.Core.{blocks_in, wires_in};
 ghost use Rattle.sheet.specs.Rules.{First};
 ghost use Rattle.sheet.specs.Sheet.{Framed};
 ghost use Rattle.paths.specs.Questions.{SoundSheet};
-ghost use Rattle.promises.specs.Questions.{lagsOutcome};
-ghost use Rattle.refusals.specs.Solving.{last_of, afterFrameOf};
+ghost use Rattle.promises.specs.Questions.{lags_outcome};
+ghost use Rattle.refusals.specs.Solving.{last_of, after_frame_of};
 
 use crate::quick::{Found, quick};
 use paths::sound::check_sound;
@@ -22,8 +22,8 @@ fn asked_sound(
     lags: &mut [i16],
     words: &mut [u16],
 ) -> Answer
-    requires { SoundSheet s.now × (n ≡ blocksIn s.now) × (m ≡ wiresIn s.now) × (n ≤ length lags.old) × (n * (n + 2) ≤ length words.old) }
-    ensures { First (last_of s.now aim lags.old words.old) (lagsOutcome result lags.new words.new) }
+    requires { SoundSheet s.now × (n ≡ blocks_in s.now) × (m ≡ wires_in s.now) × (n ≤ length lags.old) × (n * (n + 2) ≤ length words.old) }
+    ensures { First (last_of s.now aim lags.old words.old) (lags_outcome result lags.new words.new) }
 {
     let mut e = [32768u32; 64];
     match quick(s, n, m, aim, &mut e) {
@@ -44,8 +44,8 @@ pub fn asked_framed(
     lags: &mut [i16],
     words: &mut [u16],
 ) -> Answer
-    requires { Framed s.now × (n ≡ blocksIn s.now) × (m ≡ wiresIn s.now) }
-    ensures { First (afterFrameOf s.now aim lags.old words.old) (lagsOutcome result lags.new words.new) }
+    requires { Framed s.now × (n ≡ blocks_in s.now) × (m ≡ wires_in s.now) }
+    ensures { First (after_frame_of s.now aim lags.old words.old) (lags_outcome result lags.new words.new) }
 {
     if lags.len() < n {
         return refusal(4, 0);

@@ -1,11 +1,11 @@
 // Periods and lags: the period as it stands, from the longest register-free paths; lags at a period and best period, from
 // what the path table promises.
 ghost use Rattle.std.specs.Prelude.{◌≡◌};
-ghost use Rattle.sheet.specs.Core.{blocksIn, wiresIn, registersIn, shape_of};
+ghost use Rattle.sheet.specs.Core.{blocks_in, wires_in, registers_in, shape_of};
 ghost use Rattle.sheet.specs.Sheet.{Framed};
 ghost use Rattle.paths.specs.Table.{Period};
 ghost use Rattle.paths.specs.Questions.{SoundSheet};
-ghost use Rattle.promises.specs.Questions.{PeriodRight, LagsRight, BestRight, lagsOutcome};
+ghost use Rattle.promises.specs.Questions.{PeriodRight, LagsRight, BestRight, lags_outcome};
 
 use paths::rise::longest_free;
 use paths::sound::check_sound;
@@ -19,8 +19,8 @@ mod quick; // the quick way to lags
 
 // The period of a sound sheet.
 fn period_sound(s: &[u8], n: usize, m: usize) -> u32
-    requires { SoundSheet s.now × (n ≡ blocksIn s.now) × (m ≡ wiresIn s.now) }
-    ensures { Period (shape_of s.now) (registersIn s.now) result }
+    requires { SoundSheet s.now × (n ≡ blocks_in s.now) × (m ≡ wires_in s.now) }
+    ensures { Period (shape_of s.now) (registers_in s.now) result }
 {
     let mut from = [0usize; 256];
     let mut to = [0usize; 256];
@@ -33,7 +33,7 @@ fn period_sound(s: &[u8], n: usize, m: usize) -> u32
 
 // The period of a sheet whose header is right.
 fn period_framed(s: &[u8], n: usize, m: usize) -> Answer
-    requires { Framed s.now × (n ≡ blocksIn s.now) × (m ≡ wiresIn s.now) }
+    requires { Framed s.now × (n ≡ blocks_in s.now) × (m ≡ wires_in s.now) }
     ensures { PeriodRight s.now result }
 {
     if let Stage::Refuse(a) = check_sound(s, n, m) {
@@ -54,7 +54,7 @@ pub fn period(sheet: &[u8]) -> Answer
 
 // Lags at period c: the largest permitted lags that meet it, or a loop that proves that there are none.
 pub fn lags_at(sheet: &[u8], c: u32, lags: &mut [i16], words: &mut [u16]) -> Answer
-    ensures { LagsRight sheet.now c lags.old words.old (lagsOutcome result lags.new words.new) }
+    ensures { LagsRight sheet.now c lags.old words.old (lags_outcome result lags.new words.new) }
 {
     match read_frame(sheet) {
         Frame::Refused(a) => a,
@@ -64,7 +64,7 @@ pub fn lags_at(sheet: &[u8], c: u32, lags: &mut [i16], words: &mut [u16]) -> Ans
 
 // Best period: the least that permitted lags meet, as the value, and the largest lags that meet it.
 pub fn best(sheet: &[u8], lags: &mut [i16], words: &mut [u16]) -> Answer
-    ensures { BestRight sheet.now lags.old words.old (lagsOutcome result lags.new words.new) }
+    ensures { BestRight sheet.now lags.old words.old (lags_outcome result lags.new words.new) }
 {
     match read_frame(sheet) {
         Frame::Refused(a) => a,

@@ -1,6 +1,6 @@
 // The quick way to lags: the sheet's rules as one table of keys, and a descent from the upper limits.
 ghost use Rattle.std.specs.Prelude.{◌≡◌, ◌<◌, min, replicate};
-ghost use Rattle.sheet.specs.Core.{blocksIn, wiresIn};
+ghost use Rattle.sheet.specs.Core.{blocks_in, wires_in};
 ghost use Rattle.paths.specs.Questions.{SoundSheet};
 ghost use Rattle.descent.specs.System.{Fit};
 ghost use Rattle.periods.specs.Quick.{Sought, Quick};
@@ -59,7 +59,7 @@ fn sought(
 
 // The largest lags of a sound sheet at a period, or at the least, as excess numbers in e.
 pub fn quick(s: &[u8], n: usize, m: usize, aim: Aim, e: &mut [u32; 64]) -> Found
-    requires { SoundSheet s.now × (n ≡ blocksIn s.now) × (m ≡ wiresIn s.now) × (e.old ≡ replicate 64 32768) }
+    requires { SoundSheet s.now × (n ≡ blocks_in s.now) × (m ≡ wires_in s.now) × (e.old ≡ replicate 64 32768) }
     ensures { Quick s.now aim e.new result }
 {
     let mut keys = [0u32; 4096];

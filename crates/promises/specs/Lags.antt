@@ -3,7 +3,7 @@ use Rattle.std.specs.Prelude.{◌≡◌, List, ◌∷◌, map, ℕ, ◌≤◌, �
 use Rattle.sheet.specs.Core.{Core}
 use Rattle.paths.specs.Laws.Pigeons.{NoDup}
 use Rattle.moves.specs.Lags.{Permitted, Meets}
-use Rattle.loops.specs.Link.{linkA, ValidLoop, NoPath}
+use Rattle.loops.specs.Link.{link_a, ValidLoop, NoPath}
 
 -- 01: "the largest permitted lags that meet c, block by block": "each entry is at least that of every other list that meets the period."
 pub record Largest (c : Core) (p : ℕ) (r : ℕ → ℤ) : Type 0 where
@@ -29,7 +29,7 @@ pub record NoneMeets (c : Core) (p : ℕ) : Type 0 where
 -- 01: "Loops written by the library visit no block as an a twice"
 pub record LoopGiven (c : Core) (p : ℕ) (words : List ℕ) : Type 0 where
   pub valid : ValidLoop c p words
-  pub once : NoDup (map (linkA c) (valid.first ∷ valid.others))
+  pub once : NoDup (map (link_a c) (valid.first ∷ valid.others))
 
 -- "and for refusal 10 have no link of kind 2": such a loop is valid at every period
 pub record PlainLoop (c : Core) (words : List ℕ) : Type 0 where

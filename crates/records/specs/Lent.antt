@@ -3,23 +3,23 @@ use Rattle.std.specs.Prelude.{◌≡◌, List, ℕ, ◌+◌, ◌*◌, ◌%◌, �
 use Rattle.sheet.specs.Lag.{excess}
 
 -- Entry k of a lent list of u32: no table has a number as large.
-abbrev pub entryBefore : ℕ → ℕ
-entryBefore k = 3000000000 + k
+abbrev pub entry_before : ℕ → ℕ
+entry_before k = 3000000000 + k
 
 -- Byte k of a lent sheet: 256 bytes in a row all differ.
-abbrev pub byteBefore : ℕ → ℕ
-byteBefore k = (7 * k + 3) % 256
+abbrev pub byte_before : ℕ → ℕ
+byte_before k = (7 * k + 3) % 256
 
 -- Entry k of a lent loop list: blocks, wires, kinds and counts of a loop are all smaller.
-abbrev pub wordBefore : ℕ → ℕ
-wordBefore k = 50000 + k
+abbrev pub word_before : ℕ → ℕ
+word_before k = 50000 + k
 
 -- Entry k of a lent lag list, as an excess number: the lag 20,000 + k is in no range.
-abbrev pub excessBefore : ℕ → ℕ
-excessBefore k = 52768 + k
+abbrev pub excess_before : ℕ → ℕ
+excess_before k = 52768 + k
 
 abbrev pub KeptFrom : (ℕ → ℕ) → ℕ → List ℕ → Type 0
 KeptFrom before first l = (k : ℕ) → first ≤ k → k < 4300 → get_or l k 0 ≡ before k
 
 abbrev pub LagsKeptFrom : ℕ → List ℤ → Type 0
-LagsKeptFrom first l = (k : ℕ) → first ≤ k → k < 4300 → excess (get_or l k (pos 0)) ≡ excessBefore k
+LagsKeptFrom first l = (k : ℕ) → first ≤ k → k < 4300 → excess (get_or l k (pos 0)) ≡ excess_before k

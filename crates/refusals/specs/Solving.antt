@@ -4,9 +4,9 @@ use Rattle.sheet.specs.Core.{core_of}
 use Rattle.sheet.specs.Rules.{Rule, answer, stage}
 use Rattle.sheet.specs.declared.answer.Stage.{Stage}
 use Rattle.sheet.specs.declared.answer.Stage.TheVariants.{Pass, Refuse}
-use Rattle.paths.specs.Questions.{soundRules}
+use Rattle.paths.specs.Questions.{sound_rules}
 use Rattle.promises.specs.Lags.{NonePermitted}
-use Rattle.promises.specs.Questions.{LagsOutcome, lagsOutcome, lagRoom, lagsLast, bestLast}
+use Rattle.promises.specs.Questions.{LagsOutcome, lags_outcome, lag_room, lags_last, best_last}
 use Rattle.refusals.specs.declared.Aim.{Aim}
 use Rattle.refusals.specs.declared.Aim.TheVariants as A
 use Rattle.solver.specs.System.{Given}
@@ -36,11 +36,11 @@ pub record Solved (s : List ℕ) (n m p number : ℕ) (lower from to wires ceili
 
 -- ---- both lag questions at once: what is asked for tells the last rules
 abbrev pub last_of : List ℕ → Aim → List ℤ → List ℕ → List (Rule LagsOutcome)
-last_of s (A.At c) l w = lagsLast s c l w
-last_of s A.Least l w = bestLast s l w
+last_of s (A.At c) l w = lags_last s c l w
+last_of s A.Least l w = best_last s l w
 
-abbrev pub afterFrameOf : List ℕ → Aim → List ℤ → List ℕ → List (Rule LagsOutcome)
-afterFrameOf s aim l w = stage (λ a. lagsOutcome a l w) (lagRoom s l w) ++ (stage (λ a. lagsOutcome a l w) (soundRules s) ++ last_of s aim l w)
+abbrev pub after_frame_of : List ℕ → Aim → List ℤ → List ℕ → List (Rule LagsOutcome)
+after_frame_of s aim l w = stage (λ a. lags_outcome a l w) (lag_room s l w) ++ (stage (λ a. lags_outcome a l w) (sound_rules s) ++ last_of s aim l w)
 
 -- where nothing was found: the best period has no permitted lags to look among; lags at a period are looked for once more
 abbrev pub Hopeless : List ℕ → Aim → Type 0

@@ -1,11 +1,11 @@
 // The loops of refusals 10 and 11: the solver that remembers which rule holds each block, run without path rules, then with those of a period.
 ghost use Rattle.std.specs.Prelude.{◌≡◌, ◌+◌, ◌*◌, ◌<◌, ◌≤◌, length};
-ghost use Rattle.sheet.specs.Core.{blocksIn, wiresIn};
+ghost use Rattle.sheet.specs.Core.{blocks_in, wires_in};
 ghost use Rattle.sheet.specs.Rules.{First, answer};
 ghost use Rattle.paths.specs.Questions.{SoundSheet};
 ghost use Rattle.solver.specs.Laws.Begun as B;
 ghost use Rattle.refusals.specs.Load.{Room};
-ghost use Rattle.promises.specs.Questions.{lagsOutcome, lagsLast};
+ghost use Rattle.promises.specs.Questions.{lags_outcome, lags_last};
 ghost use Rattle.refusals.specs.Solving.{Solving, Resting, Solved, Hopeless, last_of};
 
 use crate::load::{load, write_lags};
@@ -85,7 +85,7 @@ fn permit(
     up: &mut [usize; 64],
     words: &mut [u16],
 ) -> Stage
-    requires sound_sheet { SoundSheet s.now × (n ≡ blocksIn s.now) × (m ≡ wiresIn s.now) × Room lower.old e.old from.old to.old wires.old ceilings.old }
+    requires sound_sheet { SoundSheet s.now × (n ≡ blocks_in s.now) × (m ≡ wires_in s.now) × Room lower.old e.old from.old to.old wires.old ceilings.old }
     requires par_value { (par.old ≡ B.none) × (up.old ≡ B.none) × (registers.now ≡ B.blank) × (delays.now ≡ B.blank) × (n * (n + 2) ≤ length words.old) }
     ensures { Solved s.now n m 4294967295 10 lower.new from.new to.new wires.new ceilings.new registers.now delays.now e.new par.new up.new words.old words.new result }
 {
@@ -117,7 +117,7 @@ fn lags_within(
 ) -> Answer
     requires delays_value { (delays.old ≡ B.blank) × (n ≤ length lags.old) × (n * (n + 2) ≤ length words.old) }
     requires resting { Resting s.now n m 4294967295 lower.now from.now to.now wires.now ceilings.now registers.old delays.old e.old par.old up.old }
-    ensures { First (lagsLast s.now c lags.old words.old) (lagsOutcome result lags.new words.new) }
+    ensures { First (lags_last s.now c lags.old words.old) (lags_outcome result lags.new words.new) }
 {
     write_table(s, n, m, registers, delays);
     if let Stage::Refuse(a) = solve(
@@ -150,7 +150,7 @@ fn aimed(
 ) -> Answer
     requires delays_value { (delays.old ≡ B.blank) × (n ≤ length lags.old) × (n * (n + 2) ≤ length words.old) × Hopeless s.now aim }
     requires resting { Resting s.now n m 4294967295 lower.now from.now to.now wires.now ceilings.now registers.old delays.old e.old par.old up.old }
-    ensures { First (last_of s.now aim lags.old words.old) (lagsOutcome result lags.new words.new) }
+    ensures { First (last_of s.now aim lags.old words.old) (lags_outcome result lags.new words.new) }
 {
     match aim {
         Aim::At(c) => lags_within(
@@ -181,9 +181,9 @@ fn refuse_held(
     lags: &mut [i16],
     words: &mut [u16],
 ) -> Answer
-    requires sound_sheet { SoundSheet s.now × (n ≡ blocksIn s.now) × (m ≡ wiresIn s.now) × Room lower.old e.old from.old to.old wires.old ceilings.old }
+    requires sound_sheet { SoundSheet s.now × (n ≡ blocks_in s.now) × (m ≡ wires_in s.now) × Room lower.old e.old from.old to.old wires.old ceilings.old }
     requires par_value { (par.old ≡ B.none) × (up.old ≡ B.none) × (registers.old ≡ B.blank) × (delays.old ≡ B.blank) × (n ≤ length lags.old) × (n * (n + 2) ≤ length words.old) × Hopeless s.now aim }
-    ensures { First (last_of s.now aim lags.old words.old) (lagsOutcome result lags.new words.new) }
+    ensures { First (last_of s.now aim lags.old words.old) (lags_outcome result lags.new words.new) }
 {
     if let Stage::Refuse(a) = permit(
         s, n, m, lower, from, to, wires, ceilings, registers, delays, e, par, up, words,
@@ -197,8 +197,8 @@ fn refuse_held(
 
 // A lag question that the quick way found no lags for.
 pub fn refuse(s: &[u8], n: usize, m: usize, aim: Aim, lags: &mut [i16], words: &mut [u16]) -> Answer
-    requires { SoundSheet s.now × (n ≡ blocksIn s.now) × (m ≡ wiresIn s.now) × (n ≤ length lags.old) × (n * (n + 2) ≤ length words.old) × Hopeless s.now aim }
-    ensures { First (last_of s.now aim lags.old words.old) (lagsOutcome result lags.new words.new) }
+    requires { SoundSheet s.now × (n ≡ blocks_in s.now) × (m ≡ wires_in s.now) × (n ≤ length lags.old) × (n * (n + 2) ≤ length words.old) × Hopeless s.now aim }
+    ensures { First (last_of s.now aim lags.old words.old) (lags_outcome result lags.new words.new) }
 {
     let mut lower = [0u32; 64];
     let mut from = [0usize; 256];

@@ -7,5 +7,5 @@ excess (pos k) = 32768 + k
 excess (negsuc k) = 32767 - k
 
 -- the lag that an excess number stands for
-abbrev pub lagOf : ℕ → ℤ
-lagOf e = sub_ℕ e 32768
+abbrev pub lag_of : ℕ → ℤ
+lag_of e = sub_ℕ e 32768

@@ -2,9 +2,9 @@
 use Rattle.std.specs.Prelude.{◌≡◌, List, ℕ, ◌+◌, ◌<◌, ◌≤◌, ℤ}
 use Rattle.std.specs.Int.Signed.{mag}
 use Rattle.sheet.specs.Lag.{excess}
-use Rattle.sheet.specs.Core.{blocksIn, wiresIn, delayIn, lowerIn, upperIn, fromIn, toIn, registersIn}
+use Rattle.sheet.specs.Core.{blocks_in, wires_in, delay_in, lower_in, upper_in, from_in, to_in, registers_in}
 use Rattle.sheet.specs.Rules.{First}
-use Rattle.sheet.specs.Sheet.{BlockGood, WireGood, WireRule, Framed, frameRules}
+use Rattle.sheet.specs.Sheet.{BlockGood, WireGood, WireRule, Framed, frame_rules}
 use Rattle.sheet.specs.declared.block.BlockRead.{BlockRead}
 use Rattle.sheet.specs.declared.block.BlockRead.TheVariants as B
 use Rattle.sheet.specs.declared.wire.WireRead.{WireRead}
@@ -29,18 +29,18 @@ pub record BlockNumbers (b delay lower upper : ℕ) : Type 0 where
 
 -- block b of the sheet, by its numbers
 pub record BlockIs (s : List ℕ) (b delay lower upper : ℕ) : Type 0 where
-  pub delay-is : delay ≡ delayIn s b
-  pub lower-is : lower ≡ excess (lowerIn s b)
-  pub upper_is : upper ≡ excess (upperIn s b)
+  pub delay_is : delay ≡ delay_in s b
+  pub lower_is : lower ≡ excess (lower_in s b)
+  pub upper_is : upper ≡ excess (upper_in s b)
   pub numbers : BlockNumbers b delay lower upper
 
 -- wire j of the sheet, by its numbers
 pub record WireIs (s : List ℕ) (j from to registers : ℕ) : Type 0 where
-  pub from_is : from ≡ fromIn s j
-  pub to_is : to ≡ toIn s j
-  pub registers-is : registers ≡ registersIn s j
-  pub from_block : from < blocksIn s
-  pub to_block : to < blocksIn s
+  pub from_is : from ≡ from_in s j
+  pub to_is : to ≡ to_in s j
+  pub registers_is : registers ≡ registers_in s j
+  pub from_block : from < blocks_in s
+  pub to_block : to < blocks_in s
   pub few : registers ≤ 2000
 
 abbrev pub BlockGiven : List ℕ → ℕ → BlockRead → Type 0
@@ -52,8 +52,8 @@ WireGiven s j (W.Wire from to registers) = WireIs s j from to registers × WireG
 WireGiven s j (W.Refused k) = (k ≡ j) × (WireGood s j → ⊥)
 
 abbrev pub FrameGiven : List ℕ → Frame → Type 0
-FrameGiven s (F.Counts n m) = (n ≡ blocksIn s) × (m ≡ wiresIn s) × Framed s
-FrameGiven s (F.Refused a) = First (frameRules s) a
+FrameGiven s (F.Counts n m) = (n ≡ blocks_in s) × (m ≡ wires_in s) × Framed s
+FrameGiven s (F.Refused a) = First (frame_rules s) a
 
 -- the same of the entries' numbers, before they are tied to a sheet
 abbrev pub BlockOf : ℕ → ℕ → ℕ → ℕ → BlockRead → Type 0

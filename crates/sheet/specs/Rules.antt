@@ -50,8 +50,8 @@ pub record FirstOf (P : ℕ → Type 0) (m r : ℕ) : Type 0 where
   pub found : r < m → P r
 
 -- a refusal at the first index below m with the property P: `says r` is the answer for the place r
-abbrev pub firstPlace : (ℕ → Type 0) → ℕ → (ℕ → Answer) → Rule Answer
-firstPlace P m says = record {
+abbrev pub first_place : (ℕ → Type 0) → ℕ → (ℕ → Answer) → Rule Answer
+first_place P m says = record {
   when = (k : ℕ) × (k < m) × P k;
   gives = λ a. (r : ℕ) × FirstOf P m r × (r < m) × (a ≡ says r);
 }

@@ -1,6 +1,6 @@
 // Numbers in a slice of bytes, the low byte first.
 ghost use Rattle.std.specs.Prelude.{◌≡◌, ◌+◌, ◌%◌, ◌<◌, length};
-ghost use Rattle.sheet.specs.Bytes.{u16At, u32_at, i16At, put16};
+ghost use Rattle.sheet.specs.Bytes.{u16_at, u32_at, i16_at, put16};
 ghost use Rattle.sheet.specs.Reads.{ExcessIs};
 
 fn wide(x: u8) -> u32
@@ -11,7 +11,7 @@ fn wide(x: u8) -> u32
 
 pub fn u16_at(s: &[u8], at: usize) -> u32
     requires { at + 1 < length s.now }
-    ensures { (result ≡ u16At s.now at) × (result < 65536) }
+    ensures { (result ≡ u16_at s.now at) × (result < 65536) }
 {
     wide(s[at]) + 256 * wide(s[at + 1])
 }
@@ -26,7 +26,7 @@ pub fn u32_at(s: &[u8], at: usize) -> u32
 // The excess number of the i16 at a place.
 pub fn excess_at(s: &[u8], at: usize) -> u32
     requires { at + 1 < length s.now }
-    ensures { ExcessIs (i16At s.now at) result }
+    ensures { ExcessIs (i16_at s.now at) result }
 {
     (u16_at(s, at) + 32768) % 65536
 }

@@ -1,8 +1,8 @@
 // The first bad block and the first bad wire of a sheet: refusals 5 and 6.
 ghost use Rattle.std.specs.Prelude.{◌≡◌};
-ghost use Rattle.sheet.specs.Core.{blocksIn, wiresIn};
+ghost use Rattle.sheet.specs.Core.{blocks_in, wires_in};
 ghost use Rattle.sheet.specs.Rules.{FirstOf, Staged};
-ghost use Rattle.sheet.specs.Sheet.{Framed, BlockGood, WireGood, entryRules};
+ghost use Rattle.sheet.specs.Sheet.{Framed, BlockGood, WireGood, entry_rules};
 
 use crate::answer::{Stage, refusal};
 use crate::block::{BlockRead, read_block};
@@ -10,7 +10,7 @@ use crate::wire::{WireRead, read_wire};
 
 // The first block whose entry breaks its rule, or n.
 fn first_bad_block(s: &[u8], n: usize) -> usize
-    requires { Framed s.now × (n ≡ blocksIn s.now) }
+    requires { Framed s.now × (n ≡ blocks_in s.now) }
     ensures { FirstOf (λ b. BlockGood s.now b → ⊥) n result }
 {
     let mut b = 0;
@@ -25,7 +25,7 @@ fn first_bad_block(s: &[u8], n: usize) -> usize
 
 // The first wire whose entry breaks its rule, or m.
 fn first_bad_wire(s: &[u8], n: usize, m: usize) -> usize
-    requires { Framed s.now × (n ≡ blocksIn s.now) × (m ≡ wiresIn s.now) }
+    requires { Framed s.now × (n ≡ blocks_in s.now) × (m ≡ wires_in s.now) }
     ensures { FirstOf (λ j. WireGood s.now j → ⊥) m result }
 {
     let mut j = 0;
@@ -40,8 +40,8 @@ fn first_bad_wire(s: &[u8], n: usize, m: usize) -> usize
 
 // Refusals 5 and 6 of a sheet that 1, 2 and 3 pass.
 pub fn check_entries(s: &[u8], n: usize, m: usize) -> Stage
-    requires { Framed s.now × (n ≡ blocksIn s.now) × (m ≡ wiresIn s.now) }
-    ensures { Staged (entryRules s.now) result }
+    requires { Framed s.now × (n ≡ blocks_in s.now) × (m ≡ wires_in s.now) }
+    ensures { Staged (entry_rules s.now) result }
 {
     let b = first_bad_block(s, n);
     if b < n {

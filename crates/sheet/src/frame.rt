@@ -1,6 +1,6 @@
 // The header of a sheet: refusals 1, 2 and 3.
 ghost use Rattle.std.specs.Prelude.{◌≡◌, ◌+◌, ◌*◌, ◌<◌, ◌≤◌, length};
-ghost use Rattle.sheet.specs.Core.{blocksIn, wiresIn};
+ghost use Rattle.sheet.specs.Core.{blocks_in, wires_in};
 ghost use Rattle.sheet.specs.Rules.{Told};
 ghost use Rattle.sheet.specs.Sheet.{Offsets};
 ghost use Rattle.sheet.specs.Reads.{FrameGiven};
@@ -17,7 +17,7 @@ pub enum Frame {
 
 // Both offsets, the total and the slice's length are what the counts ask.
 fn offsets_right(s: &[u8], n: usize, m: usize) -> bool
-    requires { (n ≡ blocksIn s.now) × (m ≡ wiresIn s.now) × (n ≤ 64) × (m ≤ 256) × (16 ≤ length s.now) }
+    requires { (n ≡ blocks_in s.now) × (m ≡ wires_in s.now) × (n ≤ 64) × (m ≤ 256) × (16 ≤ length s.now) }
     ensures { Told (Offsets s.now) result }
 {
     if u32_at(s, 4) != 16 {

@@ -1,6 +1,6 @@
 // Lags and their excess numbers.
 ghost use Rattle.std.specs.Prelude.{◌≡◌, ◌<◌};
-ghost use Rattle.sheet.specs.Lag.{lagOf};
+ghost use Rattle.sheet.specs.Lag.{lag_of};
 ghost use Rattle.sheet.specs.Reads.{ExcessIs};
 
 pub fn excess_of(lag: i16) -> u32
@@ -11,7 +11,7 @@ pub fn excess_of(lag: i16) -> u32
 
 pub fn lag_of(e: u32) -> i16
     requires { e < 65536 }
-    ensures { result ≡ lagOf e }
+    ensures { result ≡ lag_of e }
 {
     (e as i32 - 32768) as i16
 }

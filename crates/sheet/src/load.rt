@@ -1,7 +1,7 @@
 // A formed sheet's numbers, held in lists: code above reads these and never a byte.
 ghost use Rattle.std.specs.Prelude.{◌≡◌, length};
 ghost use Rattle.sheet.specs.Lag.{excess};
-ghost use Rattle.sheet.specs.Core.{blocksIn, wiresIn, delayIn, lowerIn, upperIn, fromIn, toIn, registersIn};
+ghost use Rattle.sheet.specs.Core.{blocks_in, wires_in, delay_in, lower_in, upper_in, from_in, to_in, registers_in};
 ghost use Rattle.sheet.specs.Sheet.{FormedSheet};
 ghost use Rattle.sheet.specs.Filled.{filled};
 
@@ -9,8 +9,8 @@ use crate::block::{BlockRead, read_block};
 use crate::wire::{WireRead, read_wire};
 
 pub fn load_delays(s: &[u8], n: usize, delays: &mut [u32; 64])
-    requires { FormedSheet s.now × (n ≡ blocksIn s.now) × (length delays.old ≡ 64) }
-    ensures { delays.new ≡ filled (delayIn s.now) n delays.old }
+    requires { FormedSheet s.now × (n ≡ blocks_in s.now) × (length delays.old ≡ 64) }
+    ensures { delays.new ≡ filled (delay_in s.now) n delays.old }
 {
     let mut b = 0;
     while b < n {
@@ -24,8 +24,8 @@ pub fn load_delays(s: &[u8], n: usize, delays: &mut [u32; 64])
 
 // Both lag limits of each block, as excess numbers.
 pub fn load_limits(s: &[u8], n: usize, lower: &mut [u32; 64], upper: &mut [u32; 64])
-    requires { FormedSheet s.now × (n ≡ blocksIn s.now) × (length lower.old ≡ 64) × (length upper.old ≡ 64) }
-    ensures { (lower.new ≡ filled (λ b. excess (lowerIn s.now b)) n lower.old) × (upper.new ≡ filled (λ b. excess (upperIn s.now b)) n upper.old) }
+    requires { FormedSheet s.now × (n ≡ blocks_in s.now) × (length lower.old ≡ 64) × (length upper.old ≡ 64) }
+    ensures { (lower.new ≡ filled (λ b. excess (lower_in s.now b)) n lower.old) × (upper.new ≡ filled (λ b. excess (upper_in s.now b)) n upper.old) }
 {
     let mut b = 0;
     while b < n {
@@ -46,8 +46,8 @@ pub fn load_wires(
     to: &mut [usize; 256],
     registers: &mut [u32; 256],
 )
-    requires { FormedSheet s.now × (n ≡ blocksIn s.now) × (m ≡ wiresIn s.now) × (length from.old ≡ 256) × (length to.old ≡ 256) × (length registers.old ≡ 256) }
-    ensures { (from.new ≡ filled (fromIn s.now) m from.old) × (to.new ≡ filled (toIn s.now) m to.old) × (registers.new ≡ filled (registersIn s.now) m registers.old) }
+    requires { FormedSheet s.now × (n ≡ blocks_in s.now) × (m ≡ wires_in s.now) × (length from.old ≡ 256) × (length to.old ≡ 256) × (length registers.old ≡ 256) }
+    ensures { (from.new ≡ filled (from_in s.now) m from.old) × (to.new ≡ filled (to_in s.now) m to.old) × (registers.new ≡ filled (registers_in s.now) m registers.old) }
 {
     let mut j = 0;
     while j < m {

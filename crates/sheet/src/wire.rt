@@ -1,6 +1,6 @@
 // One wire entry of a sheet.
 ghost use Rattle.std.specs.Prelude.{◌≡◌, ◌+◌, ◌*◌, ◌≤◌, length};
-ghost use Rattle.sheet.specs.Core.{blocksIn};
+ghost use Rattle.sheet.specs.Core.{blocks_in};
 ghost use Rattle.sheet.specs.Reads.{WireOf, WireGiven};
 
 use crate::bytes::u16_at;
@@ -35,7 +35,7 @@ fn wire_of(n: usize, j: usize, from: u32, to: u32, registers: u32, spare: u32) -
 
 // Wire entry j of a sheet of n blocks: nothing else reads a wire's bytes.
 pub fn read_wire(s: &[u8], n: usize, j: usize) -> WireRead
-    requires { (n ≡ blocksIn s.now) × (24 + 8 * n + 8 * j ≤ length s.now) }
+    requires { (n ≡ blocks_in s.now) × (24 + 8 * n + 8 * j ≤ length s.now) }
     ensures { WireGiven s.now j result }
 {
     let at = 16 + 8 * n + 8 * j;

@@ -12,9 +12,9 @@ use Rattle.solver.specs.declared.End.TheVariants as E
 -- Every solution lies at or below e, a block is at or above what its link asks, and following links ends at the host.
 pub record State (g : Given) (e par up : List ℕ) : Type 0 where
   pub fit : Fit g
-  pub e-long : length e ≡ 64
-  pub par-long : length par ≡ 64
-  pub up-long : length up ≡ 64
+  pub e_long : length e ≡ 64
+  pub par_long : length par ≡ 64
+  pub up_long : length up ≡ 64
   pub most : (s : ℕ → ℕ) → Solution g s → (b : ℕ) → b < g.n → s b ≤ get_or e b 0
   pub low : (b : ℕ) → b < g.n → get_or g.lower b 0 ≤ get_or e b 0
   pub high : (b : ℕ) → b < g.n → get_or e b 0 ≤ get_or g.upper b 0
@@ -52,18 +52,18 @@ Turned g Done tried e e' par' up' (T.Broken i a b) = State g e' par' up' × Stuc
 pub record Ready (g : Given) (lower e par up : List ℕ) (n i a b k : ℕ) : Type 0 where
   pub state : State g e par up
   pub rule : Rule g i a b k
-  pub n-is : n ≡ g.n
-  pub lower-is : lower ≡ g.lower
+  pub n_is : n ≡ g.n
+  pub lower_is : lower ≡ g.lower
 
 -- ---- what the sweeps go over: rules `base + j` from a list of wires' ends, and the rules of one row of the path table
 pub record Wires (g : Given) (lower from to bounds : List ℕ) (n m base : ℕ) : Type 0 where
-  pub n-is : n ≡ g.n
+  pub n_is : n ≡ g.n
   pub few : m ≤ 256
-  pub lower-is : lower ≡ g.lower
-  pub from-long : length from ≡ 256
-  pub to-long : length to ≡ 256
-  pub bounds-long : length bounds ≡ 256
-  pub base-small : base ≤ 258
+  pub lower_is : lower ≡ g.lower
+  pub from_long : length from ≡ 256
+  pub to_long : length to ≡ 256
+  pub bounds_long : length bounds ≡ 256
+  pub base_small : base ≤ 258
   pub rules : (j : ℕ) → j < m → Rule g (base + j) (get_or from j 0) (get_or to j 0) (get_or bounds j 0)
 
 -- the first k of these wires' rules hold
@@ -71,11 +71,11 @@ abbrev pub WiresHold : List ℕ → List ℕ → List ℕ → ℕ → List ℕ �
 WiresHold from to bounds k e = (j : ℕ) → j < k → Holds e (get_or from j 0) (get_or to j 0) (get_or bounds j 0)
 
 pub record Paths (g : Given) (lower registers delays : List ℕ) (n period : ℕ) : Type 0 where
-  pub n-is : n ≡ g.n
-  pub period-is : period ≡ g.period
-  pub lower-is : lower ≡ g.lower
-  pub registers-is : registers ≡ g.registers
-  pub delays-is : delays ≡ g.delays
+  pub n_is : n ≡ g.n
+  pub period_is : period ≡ g.period
+  pub lower_is : lower ≡ g.lower
+  pub registers_is : registers ≡ g.registers
+  pub delays_is : delays ≡ g.delays
 
 -- the rule of the pair u, v holds, where its delay exceeds the period
 abbrev pub PathHolds : List ℕ → List ℕ → ℕ → ℕ → ℕ → ℕ → List ℕ → Type 0
@@ -93,16 +93,16 @@ AllHold g e = (i a b k : ℕ) → Rule g i a b k → Holds e a b k
 
 -- code's lists are those that the solver is given
 pub record Lists (g : Given) (lower from to wires ceilings registers delays : List ℕ) (n m period : ℕ) : Type 0 where
-  pub n-is : n ≡ g.n
-  pub m-is : m ≡ g.m
-  pub period-is : period ≡ g.period
-  pub lower-is : lower ≡ g.lower
+  pub n_is : n ≡ g.n
+  pub m_is : m ≡ g.m
+  pub period_is : period ≡ g.period
+  pub lower_is : lower ≡ g.lower
   pub from_is : from ≡ g.from
   pub to_is : to ≡ g.to
-  pub wires-is : wires ≡ g.wires
-  pub ceilings-is : ceilings ≡ g.ceilings
-  pub registers-is : registers ≡ g.registers
-  pub delays-is : delays ≡ g.delays
+  pub wires_is : wires ≡ g.wires
+  pub ceilings_is : ceilings ≡ g.ceilings
+  pub registers_is : registers ≡ g.registers
+  pub delays_is : delays ≡ g.delays
 
 -- the rounds have ended: the lags are a solution and the largest, or a rule leaves none
 abbrev pub Settled : Given → List ℕ → List ℕ → List ℕ → End → Type 0

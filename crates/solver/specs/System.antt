@@ -57,25 +57,25 @@ pub data Link (g : Given) (i a b k : ℕ) : Type 0 where
 -- the numbers are small enough for code, and the host's lag is 0
 pub record Fit (g : Given) : Type 0 where
   pub some_block : 0 < g.n
-  pub few-blocks : g.n ≤ 64
-  pub few-wires : g.m ≤ 256
+  pub few_blocks : g.n ≤ 64
+  pub few_wires : g.m ≤ 256
   pub lower_long : length g.lower ≡ 64
   pub upper_long : length g.upper ≡ 64
-  pub from-long : length g.from ≡ 256
-  pub to-long : length g.to ≡ 256
-  pub wires-long : length g.wires ≡ 256
-  pub ceilings-long : length g.ceilings ≡ 256
-  pub registers-long : length g.registers ≡ 4096
-  pub delays-long : length g.delays ≡ 4096
+  pub from_long : length g.from ≡ 256
+  pub to_long : length g.to ≡ 256
+  pub wires_long : length g.wires ≡ 256
+  pub ceilings_long : length g.ceilings ≡ 256
+  pub registers_long : length g.registers ≡ 4096
+  pub delays_long : length g.delays ≡ 4096
   pub from_block : (j : ℕ) → j < g.m → get_or g.from j 0 < g.n
   pub to_block : (j : ℕ) → j < g.m → get_or g.to j 0 < g.n
-  pub wires-small : (j : ℕ) → j < g.m → get_or g.wires j 0 ≤ 200000
-  pub ceilings-small : (j : ℕ) → j < g.m → get_or g.ceilings j 0 ≤ 200000
-  pub paths-small : (a b : ℕ) → a < g.n → b < g.n → g.period < get_or g.delays (a * g.n + b) 0 → get_or g.registers (a * g.n + b) 0 ≤ 150000
-  pub host-lower : get_or g.lower 0 0 ≡ 32768
-  pub host-upper : get_or g.upper 0 0 ≡ 32768
+  pub wires_small : (j : ℕ) → j < g.m → get_or g.wires j 0 ≤ 200000
+  pub ceilings_small : (j : ℕ) → j < g.m → get_or g.ceilings j 0 ≤ 200000
+  pub paths_small : (a b : ℕ) → a < g.n → b < g.n → g.period < get_or g.delays (a * g.n + b) 0 → get_or g.registers (a * g.n + b) 0 ≤ 150000
+  pub host_lower : get_or g.lower 0 0 ≡ 32768
+  pub host_upper : get_or g.upper 0 0 ≡ 32768
   pub ordered : (b : ℕ) → b < g.n → get_or g.lower b 0 ≤ get_or g.upper b 0
-  pub upper-small : (b : ℕ) → b < g.n → get_or g.upper b 0 ≤ 65536
+  pub upper_small : (b : ℕ) → b < g.n → get_or g.upper b 0 ≤ 65536
 
 -- lags, as excess numbers, that keep every rule and both limits
 pub record Solution (g : Given) (s : ℕ → ℕ) : Type 0 where

@@ -8,8 +8,8 @@ module _ (s : Shape) (w : ℕ → ℕ) (u v W D : ℕ) where
   pub record Completed (j : ℕ) : Type 0 where
     pub registers : ℕ
     pub delay : ℕ
-    pub wire-lt : j < s.m
+    pub wire_lt : j < s.m
     pub end : s.to j ≡ v
-    pub registers-is : W ≡ registers + w j
-    pub delay-is : D ≡ delay + s.delay v
+    pub registers_is : W ≡ registers + w j
+    pub delay_is : D ≡ delay + s.delay v
     pub base : ((s.from j ≡ u) × (registers ≡ 0) × (delay ≡ s.delay u)) ⊎ ((s.from j ≡ u → ⊥) × Best s w u (s.from j) registers delay)

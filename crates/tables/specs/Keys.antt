@@ -5,11 +5,11 @@ use Rattle.sheet.specs.Core.{Shape}
 use Rattle.tables.specs.Row.{Relaxed, Rounded, RowRight}
 
 -- the registers and the delay of a key
-abbrev pub keyW : ℕ → ℕ
-keyW k = k / 4294967296
+abbrev pub key_w : ℕ → ℕ
+key_w k = k / 4294967296
 
-abbrev pub keyD : ℕ → ℕ
-keyD k = 2147483648 - k % 4294967296
+abbrev pub key_d : ℕ → ℕ
+key_d k = 2147483648 - k % 4294967296
 
 -- the first n keys, each decoded
 unfoldable pub decoded : (ℕ → ℕ) → ℕ → List ℕ → List ℕ
@@ -17,11 +17,11 @@ decoded f zero l = []
 decoded f (suc n) [] = []
 decoded f (suc n) (x ∷ l) = f x ∷ decoded f n l
 
-abbrev pub rowW : ℕ → List ℕ → List ℕ
-rowW n keys = decoded keyW n keys
+abbrev pub row_w : ℕ → List ℕ → List ℕ
+row_w n keys = decoded key_w n keys
 
-abbrev pub rowD : ℕ → List ℕ → List ℕ
-rowD n keys = decoded keyD n keys
+abbrev pub row_d : ℕ → List ℕ → List ℕ
+row_d n keys = decoded key_d n keys
 
 -- keys that the decoding loses nothing of
 pub record Whole (n : ℕ) (keys : List ℕ) : Type 0 where
@@ -29,8 +29,8 @@ pub record Whole (n : ℕ) (keys : List ℕ) : Type 0 where
   pub half : (v : ℕ) → v < n → get_or keys v 0 % 4294967296 ≤ 2147483648
 
 -- what wire j costs: its registers on a key, and 10,000 less the delay of the block that it leads to
-abbrev pub costAt : List ℕ → List ℕ → List ℕ → ℕ → ℕ
-costAt delays to registers j = get_or registers j 0 * 4294967296 + 10000 - get_or delays (get_or to j 0) 0
+abbrev pub cost_at : List ℕ → List ℕ → List ℕ → ℕ → ℕ
+cost_at delays to registers j = get_or registers j 0 * 4294967296 + 10000 - get_or delays (get_or to j 0) 0
 
 pub record Costs (s : Shape) (w : ℕ → ℕ) (costs : List ℕ) : Type 0 where
   pub long : length costs ≡ 256
@@ -40,14 +40,14 @@ module _ (s : Shape) (w : ℕ → ℕ) (u : ℕ) where
   -- wire j was tried
   pub record Tried (j : ℕ) (keys keys' : List ℕ) (b : Bool) : Type 0 where
     pub whole : Whole s.n keys'
-    pub relaxed : Relaxed s w u j (rowW s.n keys) (rowD s.n keys) (rowW s.n keys') (rowD s.n keys') b
+    pub relaxed : Relaxed s w u j (row_w s.n keys) (row_d s.n keys) (row_w s.n keys') (row_d s.n keys') b
 
   -- all wires were tried
   pub record TriedAll (k : ℕ) (keys keys' : List ℕ) (changed : ℕ) : Type 0 where
     pub whole : Whole s.n keys'
-    pub rounded : Rounded s w u k (rowW s.n keys) (rowD s.n keys) (rowW s.n keys') (rowD s.n keys') changed
+    pub rounded : Rounded s w u k (row_w s.n keys) (row_d s.n keys) (row_w s.n keys') (row_d s.n keys') changed
 
   -- the finished row
   pub record KeysRight (keys : List ℕ) : Type 0 where
     pub whole : Whole s.n keys
-    pub right : RowRight s w u (rowW s.n keys) (rowD s.n keys)
+    pub right : RowRight s w u (row_w s.n keys) (row_d s.n keys)

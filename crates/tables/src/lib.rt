@@ -1,9 +1,9 @@
 // The path table, row after row; the question path table.
 ghost use Rattle.std.specs.Prelude.{◌≡◌};
-ghost use Rattle.sheet.specs.Core.{blocksIn, wiresIn};
+ghost use Rattle.sheet.specs.Core.{blocks_in, wires_in};
 ghost use Rattle.sheet.specs.Rules.{First};
 ghost use Rattle.sheet.specs.Sheet.{Framed};
-ghost use Rattle.tables.specs.Questions.{TableRight, tableAfterFrame, tableOutcome};
+ghost use Rattle.tables.specs.Questions.{TableRight, table_after_frame, table_outcome};
 
 use paths::sound::check_sound;
 use sheet::answer::{Answer, Stage, done, refusal};
@@ -14,8 +14,8 @@ pub mod table; // the path table, row after row
 
 // The path table of a sheet whose header is right.
 fn table_framed(s: &[u8], n: usize, m: usize, registers: &mut [u32], delays: &mut [u32]) -> Answer
-    requires { Framed s.now × (n ≡ blocksIn s.now) × (m ≡ wiresIn s.now) }
-    ensures { First (tableAfterFrame s.now registers.old delays.old) (tableOutcome result registers.new delays.new) }
+    requires { Framed s.now × (n ≡ blocks_in s.now) × (m ≡ wires_in s.now) }
+    ensures { First (table_after_frame s.now registers.old delays.old) (table_outcome result registers.new delays.new) }
 {
     if registers.len() < n * n {
         return refusal(4, 0);
@@ -32,7 +32,7 @@ fn table_framed(s: &[u8], n: usize, m: usize, registers: &mut [u32], delays: &mu
 
 // The path table of a sheet, in the first n² entries of both lists.
 pub fn path_table(sheet: &[u8], registers: &mut [u32], delays: &mut [u32]) -> Answer
-    ensures { TableRight sheet.now registers.old delays.old (tableOutcome result registers.new delays.new) }
+    ensures { TableRight sheet.now registers.old delays.old (table_outcome result registers.new delays.new) }
 {
     match read_frame(sheet) {
         Frame::Refused(a) => a,

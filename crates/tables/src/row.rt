@@ -1,11 +1,11 @@
 // One row of the path table: rounds over the wires, each tried in place, left as soon as a round changes nothing.
 // While it is filled, a row holds one key for each block: its registers and its delay in one number, the lower the better.
 ghost use Rattle.std.specs.Prelude.{◌≡◌, ℕ, ◌+◌, ◌*◌, ◌-◌, ◌%◌, ◌<◌, ◌≤◌, min, length, get_or, set};
-ghost use Rattle.paths.specs.Lists.{held, listShape, Wires, Delays};
+ghost use Rattle.paths.specs.Lists.{held, list_shape, Wires, Delays};
 ghost use Rattle.sheet.specs.Filled.{filled};
 ghost use Rattle.paths.specs.Table.{LoopAt};
 ghost use Rattle.tables.specs.Row.{base_of, Row, RowRight};
-ghost use Rattle.tables.specs.Keys.{keyW, keyD, rowW, rowD, Whole, costAt, Costs, Tried, TriedAll, KeysRight};
+ghost use Rattle.tables.specs.Keys.{key_w, key_d, row_w, row_d, Whole, cost_at, Costs, Tried, TriedAll, KeysRight};
 
 // The key of a pair that no path joins: 4294967295 registers and no delay.
 const FAR: usize = 18446744071562067968;
@@ -78,7 +78,7 @@ pub fn weigh(
     requires delays { Delays n delays.now × (n ≤ 64) × (m ≤ 256) × (length to.now ≡ 256) × (length registers.now ≡ 256) × (length costs.old ≡ 256) }
     requires by_index { (i : ℕ) → i < m → get_or to.now i 0 < n }
     requires by_index_2 { (i : ℕ) → i < m → get_or registers.now i 0 ≤ 2000 }
-    ensures { costs.new ≡ filled (costAt delays.now to.now registers.now) m costs.old }
+    ensures { costs.new ≡ filled (cost_at delays.now to.now registers.now) m costs.old }
 {
     let mut j: usize = 0;
     while j < m {
@@ -130,9 +130,9 @@ fn relax(
     j: usize,
     keys: &mut [usize; 64],
 ) -> bool
-    requires wires { Wires n m from.now to.now registers.now × Delays n delays.now × (u < n) × (j < m) × (start + get_or delays.now u 0 ≡ 2147483648) × Costs (listShape n m delays.now from.now to.now) (held registers.now) costs.now }
-    requires whole { Whole n keys.old × Row (listShape n m delays.now from.now to.now) (held registers.now) u 16384 (rowW n keys.old) (rowD n keys.old) }
-    ensures { Tried (listShape n m delays.now from.now to.now) (held registers.now) u j keys.old keys.new result }
+    requires wires { Wires n m from.now to.now registers.now × Delays n delays.now × (u < n) × (j < m) × (start + get_or delays.now u 0 ≡ 2147483648) × Costs (list_shape n m delays.now from.now to.now) (held registers.now) costs.now }
+    requires whole { Whole n keys.old × Row (list_shape n m delays.now from.now to.now) (held registers.now) u 16384 (row_w n keys.old) (row_d n keys.old) }
+    ensures { Tried (list_shape n m delays.now from.now to.now) (held registers.now) u j keys.old keys.new result }
 {
     let f = end_at(from, n, m, j);
     let t = end_at(to, n, m, j);
@@ -160,9 +160,9 @@ fn round(
     done: usize,
     keys: &mut [usize; 64],
 ) -> usize
-    requires wires { Wires n m from.now to.now registers.now × Delays n delays.now × (u < n) × (done < 64) × (start + get_or delays.now u 0 ≡ 2147483648) × Costs (listShape n m delays.now from.now to.now) (held registers.now) costs.now }
-    requires whole { Whole n keys.old × Row (listShape n m delays.now from.now to.now) (held registers.now) u (256 * done) (rowW n keys.old) (rowD n keys.old) }
-    ensures { TriedAll (listShape n m delays.now from.now to.now) (held registers.now) u (256 * done + 256) keys.old keys.new result }
+    requires wires { Wires n m from.now to.now registers.now × Delays n delays.now × (u < n) × (done < 64) × (start + get_or delays.now u 0 ≡ 2147483648) × Costs (list_shape n m delays.now from.now to.now) (held registers.now) costs.now }
+    requires whole { Whole n keys.old × Row (list_shape n m delays.now from.now to.now) (held registers.now) u (256 * done) (row_w n keys.old) (row_d n keys.old) }
+    ensures { TriedAll (list_shape n m delays.now from.now to.now) (held registers.now) u (256 * done + 256) keys.old keys.new result }
 {
     let mut changed: usize = 0;
     let mut j: usize = 0;
@@ -207,9 +207,9 @@ fn settle(
     u: usize,
     keys: &mut [usize; 64],
 )
-    requires wires { Wires n m from.now to.now registers.now × Delays n delays.now × (u < n) × (length keys.old ≡ 64) × Costs (listShape n m delays.now from.now to.now) (held registers.now) costs.now }
-    requires by_index { (b : ℕ) → LoopAt (listShape n m delays.now from.now to.now) (held registers.now) b → ⊥ }
-    ensures { KeysRight (listShape n m delays.now from.now to.now) (held registers.now) u keys.new }
+    requires wires { Wires n m from.now to.now registers.now × Delays n delays.now × (u < n) × (length keys.old ≡ 64) × Costs (list_shape n m delays.now from.now to.now) (held registers.now) costs.now }
+    requires by_index { (b : ℕ) → LoopAt (list_shape n m delays.now from.now to.now) (held registers.now) b → ⊥ }
+    ensures { KeysRight (list_shape n m delays.now from.now to.now) (held registers.now) u keys.new }
 {
     let start = start_of(n, delays, u);
     blank(n, keys);
@@ -229,14 +229,14 @@ fn settle(
 // The registers and the delay that a key holds.
 fn registers_of(k: usize) -> u32
     requires { k < 18446744073709551616 }
-    ensures { result ≡ keyW k }
+    ensures { result ≡ key_w k }
 {
     (k / 4294967296) as u32
 }
 
 fn delay_of(k: usize) -> u32
     requires { k % 4294967296 ≤ 2147483648 }
-    ensures { result ≡ keyD k }
+    ensures { result ≡ key_d k }
 {
     (2147483648 - k % 4294967296) as u32
 }
@@ -244,7 +244,7 @@ fn delay_of(k: usize) -> u32
 // The registers and the delay of each key, into the row.
 fn unpack(n: usize, keys: &[usize; 64], ws: &mut [u32], ds: &mut [u32])
     requires { (n ≤ 64) × (length keys.now ≡ 64) × (length ws.old ≡ n) × (length ds.old ≡ n) × Whole n keys.now }
-    ensures { (ws.new ≡ filled (λ v. keyW (get_or keys.now v 0)) n ws.old) × (ds.new ≡ filled (λ v. keyD (get_or keys.now v 0)) n ds.old) }
+    ensures { (ws.new ≡ filled (λ v. key_w (get_or keys.now v 0)) n ws.old) × (ds.new ≡ filled (λ v. key_d (get_or keys.now v 0)) n ds.old) }
 {
     let mut v: usize = 0;
     while v < n {
@@ -268,9 +268,9 @@ pub fn fill_row(
     ws: &mut [u32],
     ds: &mut [u32],
 )
-    requires wires { Wires n m from.now to.now registers.now × Delays n delays.now × (u < n) × (length ws.old ≡ n) × (length ds.old ≡ n) × Costs (listShape n m delays.now from.now to.now) (held registers.now) costs.now }
-    requires by_index { (b : ℕ) → LoopAt (listShape n m delays.now from.now to.now) (held registers.now) b → ⊥ }
-    ensures { RowRight (listShape n m delays.now from.now to.now) (held registers.now) u ws.new ds.new }
+    requires wires { Wires n m from.now to.now registers.now × Delays n delays.now × (u < n) × (length ws.old ≡ n) × (length ds.old ≡ n) × Costs (list_shape n m delays.now from.now to.now) (held registers.now) costs.now }
+    requires by_index { (b : ℕ) → LoopAt (list_shape n m delays.now from.now to.now) (held registers.now) b → ⊥ }
+    ensures { RowRight (list_shape n m delays.now from.now to.now) (held registers.now) u ws.new ds.new }
 {
     let mut keys = [0usize; 64];
     settle(n, m, delays, from, to, registers, costs, u, &mut keys);

@@ -1,8 +1,8 @@
 // The path table, row after row.
 ghost use Rattle.std.specs.Prelude.{◌≡◌, ℕ, ◌*◌, ◌≤◌, length};
-ghost use Rattle.sheet.specs.Core.{blocksIn, wiresIn, registersIn, shape_of};
+ghost use Rattle.sheet.specs.Core.{blocks_in, wires_in, registers_in, shape_of};
 ghost use Rattle.sheet.specs.Sheet.{FormedSheet};
-ghost use Rattle.paths.specs.Lists.{held, listShape, Wires, Delays};
+ghost use Rattle.paths.specs.Lists.{held, list_shape, Wires, Delays};
 ghost use Rattle.paths.specs.Table.{LoopAt};
 ghost use Rattle.tables.specs.Row.{Rows};
 ghost use Rattle.tables.specs.Keys.{Costs};
@@ -22,9 +22,9 @@ pub fn fill_table(
     ws: &mut [u32],
     ds: &mut [u32],
 )
-    requires wires { Wires n m from.now to.now registers.now × Delays n delays.now × (n * n ≤ length ws.old) × (n * n ≤ length ds.old) × Costs (listShape n m delays.now from.now to.now) (held registers.now) costs.now }
-    requires by_index { (b : ℕ) → LoopAt (listShape n m delays.now from.now to.now) (held registers.now) b → ⊥ }
-    ensures { Rows (listShape n m delays.now from.now to.now) (held registers.now) n ws.old ds.old ws.new ds.new }
+    requires wires { Wires n m from.now to.now registers.now × Delays n delays.now × (n * n ≤ length ws.old) × (n * n ≤ length ds.old) × Costs (list_shape n m delays.now from.now to.now) (held registers.now) costs.now }
+    requires by_index { (b : ℕ) → LoopAt (list_shape n m delays.now from.now to.now) (held registers.now) b → ⊥ }
+    ensures { Rows (list_shape n m delays.now from.now to.now) (held registers.now) n ws.old ds.old ws.new ds.new }
 {
     let mut u: usize = 0;
     while u < n {
@@ -48,9 +48,9 @@ pub fn fill_table(
 
 // The table of a sound sheet, over the first n² entries of both lists.
 pub fn write_table(s: &[u8], n: usize, m: usize, ws: &mut [u32], ds: &mut [u32])
-    requires formed_sheet { FormedSheet s.now × (n ≡ blocksIn s.now) × (m ≡ wiresIn s.now) × (n * n ≤ length ws.old) × (n * n ≤ length ds.old) }
-    requires by_index { (b : ℕ) → LoopAt (shape_of s.now) (registersIn s.now) b → ⊥ }
-    ensures { Rows (shape_of s.now) (registersIn s.now) n ws.old ds.old ws.new ds.new }
+    requires formed_sheet { FormedSheet s.now × (n ≡ blocks_in s.now) × (m ≡ wires_in s.now) × (n * n ≤ length ws.old) × (n * n ≤ length ds.old) }
+    requires by_index { (b : ℕ) → LoopAt (shape_of s.now) (registers_in s.now) b → ⊥ }
+    ensures { Rows (shape_of s.now) (registers_in s.now) n ws.old ds.old ws.new ds.new }
 {
     let mut from = [0usize; 256];
     let mut to = [0usize; 256];

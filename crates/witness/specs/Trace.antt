@@ -1,7 +1,7 @@
 -- A path link's wires, found backward along a row of the path table.
 use Rattle.std.specs.Prelude.{◌≡◌, List, ℕ, ◌+◌, ◌*◌, ◌≤◌, ◌<◌, length, get_or, drop}
-use Rattle.sheet.specs.Core.{Shape, blocksIn, registersIn, shape_of}
-use Rattle.paths.specs.Path.{Joins, registersOn, delayOn}
+use Rattle.sheet.specs.Core.{Shape, blocks_in, registers_in, shape_of}
+use Rattle.paths.specs.Path.{Joins, registers_on, delay_on}
 use Rattle.paths.specs.Table.{Best, Table}
 use Rattle.paths.specs.Questions.{SoundSheet}
 use Rattle.tables.specs.Back.{Completed}
@@ -9,10 +9,10 @@ use Rattle.tables.specs.Back.{Completed}
 -- a sound sheet of n blocks with its path table
 pub record Tabled (s : List ℕ) (n : ℕ) (registers delays : List ℕ) : Type 0 where
   pub sound : SoundSheet s
-  pub n-is : n ≡ blocksIn s
-  pub registers-long : length registers ≡ 4096
-  pub delays-long : length delays ≡ 4096
-  pub table : Table (shape_of s) (registersIn s) registers delays
+  pub n_is : n ≡ blocks_in s
+  pub registers_long : length registers ≡ 4096
+  pub delays_long : length delays ≡ 4096
+  pub table : Table (shape_of s) (registers_in s) registers delays
 
 -- a sound sheet, with its path table where the link number i is a path's
 pub record Known (s : List ℕ) (n : ℕ) (registers delays : List ℕ) (i : ℕ) : Type 0 where
@@ -38,8 +38,8 @@ module _ (s : Shape) (w : ℕ → ℕ) (u v W D : ℕ) where
   -- the wires ws are a path from u to v with these numbers, of fewer than n wires
   pub record Traced (ws : List ℕ) : Type 0 where
     pub joins : Joins s u ws v
-    pub registers-is : registersOn w ws ≡ W
-    pub delay-is : delayOn s u ws ≡ D
+    pub registers_is : registers_on w ws ≡ W
+    pub delay_is : delay_on s u ws ≡ D
     pub short : length ws < s.n
 
   -- the wires ws lead from b to v and complete the best paths from u to b, with these numbers, to best paths
@@ -47,14 +47,14 @@ module _ (s : Shape) (w : ℕ → ℕ) (u v W D : ℕ) where
     pub whole : Best s w u v W D
     pub front : Best s w u b Wb Db
     pub joins : Joins s b ws v
-    pub registers-is : Wb + registersOn w ws ≡ W
-    pub delay-is : Db + delayOn s b ws ≡ D + s.delay b
+    pub registers_is : Wb + registers_on w ws ≡ W
+    pub delay_is : Db + delay_on s b ws ≡ D + s.delay b
 
 -- the wires from place `at` on are found, and the search goes on at block b
 pub record Tracing (s : List ℕ) (n : ℕ) (registers delays : List ℕ) (u v b at : ℕ) (wires : List ℕ) : Type 0 where
   pub inside : b < n
   pub place : at ≤ 64
   pub long : length wires ≡ 64
-  pub apart : Apart (shape_of s) (registersIn s) u b (get_or registers (u * n + b) 0) (get_or delays (u * n + b) 0)
+  pub apart : Apart (shape_of s) (registers_in s) u b (get_or registers (u * n + b) 0) (get_or delays (u * n + b) 0)
   pub suffix :
-      Suffix (shape_of s) (registersIn s) u v (get_or registers (u * n + v) 0) (get_or delays (u * n + v) 0) b (get_or registers (u * n + b) 0) (get_or delays (u * n + b) 0) (drop at wires)
+      Suffix (shape_of s) (registers_in s) u v (get_or registers (u * n + v) 0) (get_or delays (u * n + v) 0) b (get_or registers (u * n + b) 0) (get_or delays (u * n + b) 0) (drop at wires)

@@ -5,7 +5,7 @@ use Rattle.sheet.specs.Core.{Core, core_of}
 use Rattle.sheet.specs.Laws.Integer.{up, down}
 use Rattle.paths.specs.Table.{Best}
 use Rattle.paths.specs.Laws.Pigeons.{NotIn, NoDup}
-use Rattle.loops.specs.Link.{Link, allWords, linkA, Chain, sumK, NoPath}
+use Rattle.loops.specs.Link.{Link, all_words, link_a, Chain, sum_k, NoPath}
 use Rattle.solver.specs.System.{Given}
 use Rattle.solver.specs.Walk.{Rooted, iter}
 use Rattle.solver.specs.Laws.Walk.{Walking}
@@ -17,9 +17,9 @@ pub record Halted (s : List ℕ) (n : ℕ) (registers delays par up : List ℕ) 
   pub stands : Stands s g
   pub state : State g e par up
   pub stuck : Stuck g e par i a b
-  pub n-is : n ≡ g.n
-  pub registers-are : g.registers ≡ registers
-  pub delays-are : g.delays ≡ delays
+  pub n_is : n ≡ g.n
+  pub registers_are : g.registers ≡ registers
+  pub delays_are : g.delays ≡ delays
 
 -- where the walk of links from b ends: at a, or at the host if it does not meet a
 pub record Ends (par : List ℕ) (a b start : ℕ) : Type 0 where
@@ -48,12 +48,12 @@ NoneSlow c p = (u v W D : ℕ) → Best c.shape c.registers u v W D → p < D �
 
 -- the words of the links ls stand before place `at`; the links lead from block `start` to v, and their k's with `top` make at most `bottom`
 pub record Linked (c : Core) (p start v top bottom : ℕ) (ls : List Link) (w w' : List ℕ) (at : ℕ) : Type 0 where
-  pub words_are : w' ≡ sets w 0 (allWords ls)
-  pub at-is : at ≡ length (allWords ls)
+  pub words_are : w' ≡ sets w 0 (all_words ls)
+  pub at_is : at ≡ length (all_words ls)
   pub few : at ≤ length ls * (c.shape.n + 2)
   pub chain : Chain c p start ls v
-  pub sum : top + up (sumK c ls) ≤ bottom + down (sumK c ls)
-  pub once : NoDup (map (linkA c) ls)
+  pub sum : top + up (sum_k c ls) ≤ bottom + down (sum_k c ls)
+  pub once : NoDup (map (link_a c) ls)
   pub plain : NoneSlow c p → NoPath c ls
 
 -- k steps of the walk from b are written, and it is at v
@@ -63,7 +63,7 @@ pub record Walked (s par : List ℕ) (g : Given) (e : List ℕ) (a b start : ℕ
   pub here : iter par k b ≡ v
   pub links : List Link
   pub linked : Linked (core_of s) g.period start v (get_or e v 0 + 1) (get_or e start 0) links w w' at
-  pub apart : (x : ℕ) → (x ≡ start → ⊥) → (x ≡ a → ⊥) → ((j : ℕ) → j < k → x ≡ iter par j b → ⊥) → NotIn x (map (linkA (core_of s)) links)
+  pub apart : (x : ℕ) → (x ≡ start → ⊥) → (x ≡ a → ⊥) → ((j : ℕ) → j < k → x ≡ iter par j b → ⊥) → NotIn x (map (link_a (core_of s)) links)
 
 -- a loop that does not end at a begins with the lower limit of a
 abbrev pub Begun : ℕ → ℕ → List ℕ → List ℕ → ℕ → Type 0
@@ -77,6 +77,6 @@ pub record Underway (s : List ℕ) (n : ℕ) (registers delays par up : List ℕ
   pub g : Given
   pub e : List ℕ
   pub halted : Halted s n registers delays par up i a b g e
-  pub period-is : g.period ≡ p
+  pub period_is : g.period ≡ p
   pub ends : Ends par a b start
   pub walked : Walked s par g e a b start ends w w' at v

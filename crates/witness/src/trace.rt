@@ -1,6 +1,6 @@
 // A path link's wires: backward from the end along the row of the start, by wires that complete an entry exactly.
 ghost use Rattle.std.specs.Prelude.{◌≡◌, ◌+◌, ◌*◌, ◌<◌, ◌≤◌, length, get_or, drop};
-ghost use Rattle.sheet.specs.Core.{blocksIn, wiresIn, delayIn, registersIn, shape_of};
+ghost use Rattle.sheet.specs.Core.{blocks_in, wires_in, delay_in, registers_in, shape_of};
 ghost use Rattle.sheet.specs.Sheet.{FormedSheet};
 ghost use Rattle.sheet.specs.Rules.{Told};
 ghost use Rattle.tables.specs.Back.{Completed};
@@ -22,8 +22,8 @@ fn base_registers(n: usize, registers: &[u32; 4096], u: usize, f: usize) -> u32
 
 // The same for its delay: the bare start block has its own.
 fn base_delay(s: &[u8], n: usize, delays: &[u32; 4096], u: usize, f: usize) -> u32
-    requires { FormedSheet s.now × (n ≡ blocksIn s.now) × (length delays.now ≡ 4096) × (u < n) × (f < n) }
-    ensures { Based (delayIn s.now u) u f (get_or delays.now (u * n + f) 0) result }
+    requires { FormedSheet s.now × (n ≡ blocks_in s.now) × (length delays.now ≡ 4096) × (u < n) × (f < n) }
+    ensures { Based (delay_in s.now u) u f (get_or delays.now (u * n + f) 0) result }
 {
     if f == u {
         return delay_of(s, u);
@@ -54,8 +54,8 @@ fn completes(
     v: usize,
     j: usize,
 ) -> bool
-    requires { Tabled s.now n registers.now delays.now × (u < n) × (v < n) × (j < wiresIn s.now) × (get_or registers.now (u * n + v) 0 < 4294967295) }
-    ensures { Told (Completed (shape_of s.now) (registersIn s.now) u v (get_or registers.now (u * n + v) 0) (get_or delays.now (u * n + v) 0) j) result }
+    requires { Tabled s.now n registers.now delays.now × (u < n) × (v < n) × (j < wires_in s.now) × (get_or registers.now (u * n + v) 0 < 4294967295) }
+    ensures { Told (Completed (shape_of s.now) (registers_in s.now) u v (get_or registers.now (u * n + v) 0) (get_or delays.now (u * n + v) 0) j) result }
 {
     let WireRead::Wire(f, t, w) = read_wire(s, n, j) else {
         return false;
@@ -84,8 +84,8 @@ fn last_wire(
     v: usize,
 ) -> usize
     requires tabled { Tabled s.now n registers.now delays.now × (u < n) × (v < n) × (get_or registers.now (u * n + v) 0 < 4294967295) }
-    requires apart { Apart (shape_of s.now) (registersIn s.now) u v (get_or registers.now (u * n + v) 0) (get_or delays.now (u * n + v) 0) }
-    ensures { Completed (shape_of s.now) (registersIn s.now) u v (get_or registers.now (u * n + v) 0) (get_or delays.now (u * n + v) 0) result }
+    requires apart { Apart (shape_of s.now) (registers_in s.now) u v (get_or registers.now (u * n + v) 0) (get_or delays.now (u * n + v) 0) }
+    ensures { Completed (shape_of s.now) (registers_in s.now) u v (get_or registers.now (u * n + v) 0) (get_or delays.now (u * n + v) 0) result }
 {
     let mut j = 0;
     while !completes(s, n, registers, delays, u, v, j) {
@@ -104,7 +104,7 @@ fn bare(
     v: usize,
 ) -> bool
     requires { Tabled s.now n registers.now delays.now × (u < n) × (v < n) }
-    ensures { Told (Bare (shape_of s.now) (registersIn s.now) u v (get_or registers.now (u * n + v) 0) (get_or delays.now (u * n + v) 0)) result }
+    ensures { Told (Bare (shape_of s.now) (registers_in s.now) u v (get_or registers.now (u * n + v) 0) (get_or delays.now (u * n + v) 0)) result }
 {
     if v != u {
         return false;
@@ -129,7 +129,7 @@ pub fn trace(
     wires: &mut [u16; 64],
 ) -> usize
     requires { Tabled s.now n registers.now delays.now × (u < n) × (v < n) × (get_or registers.now (u * n + v) 0 < 4294967295) × (length wires.old ≡ 64) }
-    ensures { (result ≤ 64) × (length wires.new ≡ 64) × Traced (shape_of s.now) (registersIn s.now) u v (get_or registers.now (u * n + v) 0) (get_or delays.now (u * n + v) 0) (drop result wires.new) }
+    ensures { (result ≤ 64) × (length wires.new ≡ 64) × Traced (shape_of s.now) (registers_in s.now) u v (get_or registers.now (u * n + v) 0) (get_or delays.now (u * n + v) 0) (drop result wires.new) }
 {
     if bare(s, n, registers, delays, u, v) {
         return 64;

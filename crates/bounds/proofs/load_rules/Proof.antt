@@ -3,7 +3,7 @@ use mathlib.Core.Path.{ap, ◌∙◌}
 use Prim.Native.Nat.{ℕ}
 use lib.ListN.{length, length-replicate}
 use Rattle.paths.specs.Laws.Loaded.{loaded}
-use Rattle.bounds.specs.Laws.Loaded.{slow-paths, ruled}
+use Rattle.bounds.specs.Laws.Loaded.{slow_paths, ruled}
 use Rattle.bounds.proofs.load_rules.Statement.{statement}
 use Rattle.bounds.proofs.load_rules.Tie as tie
 
@@ -24,7 +24,7 @@ in-turn-requires c κs = let l = length-replicate {A = ℕ} 256 0 in
 fill-keys-requires : tie.Need-fill-keys-requires
 fill-keys-requires c κs = let l = length-replicate {A = ℕ} 256 0 in
     let h = loaded c.before.before.before.before.before.before.before.before.before.before.before.before.before.before.before.before.before.before.before.before.before.args.s.now c.before.before.before.before.before.before.before.before.before.before.before.before.before.before.before.before.before.before.before.before.before.requires.0.formed _ _ c.before.before.before.before.before.before.before.before.before.before.before.before.before.before.before.before.before.before.before.before.before.requires.1 c.before.before.before.before.before.before.before.before.before.before.before.before.before.before.before.before.before.before.before.before.before.requires.2 _ _ _ _ _ _ _ _ l l l (length-replicate {A = ℕ} 64 0) c.before.before.before.before.before.before.before.before.before.before.before.before.before.load-wires.ensures c.before.before.before.before.before.before.before.before.before.before.before.load-delays.ensures in
-    (h.wires, h.delays-in, c.before.before.before.before.before.before.in-turn.ensures, slow-paths c.before.before.before.before.before.before.before.before.before.before.before.before.before.before.before.before.before.before.before.before.before.requires.0 h)
+    (h.wires, h.delays_in, c.before.before.before.before.before.before.in-turn.ensures, slow_paths c.before.before.before.before.before.before.before.before.before.before.before.before.before.before.before.before.before.before.before.before.before.requires.0 h)
 
 fold-ceilings-requires : tie.Need-fold-ceilings-requires
 fold-ceilings-requires c κs = let l = length-replicate {A = ℕ} 256 0 in

@@ -6,101 +6,101 @@ use Rattle.std.proofs.Math.Decide.{dec_lt}
 use Rattle.std.proofs.lemmas.List.{length-replicate, get_or-replicate}
 use Rattle.std.proofs.Math.ListN.{get_or-eq_default}
 use Rattle.sheet.specs.Lag.{excess}
-use Rattle.sheet.specs.Core.{blocksIn, wiresIn, lowerIn, upperIn, fromIn, toIn, registersIn, shape_of, core_of}
+use Rattle.sheet.specs.Core.{blocks_in, wires_in, lower_in, upper_in, from_in, to_in, registers_in, shape_of, core_of}
 use Rattle.sheet.specs.Filled.{filled}
-use Rattle.sheet.specs.Laws.Filled.{length-filled, filled_at, filled-past}
-use Rattle.sheet.specs.Laws.Formed.{formed-core}
-use Rattle.paths.specs.Lists.{held, listShape}
+use Rattle.sheet.specs.Laws.Filled.{length_filled, filled_at, filled_past}
+use Rattle.sheet.specs.Laws.Formed.{formed_core}
+use Rattle.paths.specs.Lists.{held, list_shape}
 use Rattle.paths.specs.Table.{Way}
 use Rattle.paths.specs.Questions.{SoundSheet}
-use Rattle.paths.specs.Laws.Path.{joins-start-lt, joins-end-lt}
-use Rattle.paths.specs.Laws.Same.{same-sym, joins-same, registers-same, delay-same, way_same}
+use Rattle.paths.specs.Laws.Path.{joins_start_lt, joins_end_lt}
+use Rattle.paths.specs.Laws.Same.{same_sym, joins_same, registers_same, delay_same, way_same}
 use Rattle.paths.specs.Laws.Loaded.{Loaded}
 use Rattle.keys.specs.Keys.{Loose, Slow, Keyed, Folded}
 use Rattle.bounds.specs.Ruled.{Key, loose, path, ceiling, Ruled}
-use Rattle.bounds.specs.Laws.Slow.{slow, free-quick}
+use Rattle.bounds.specs.Laws.Slow.{slow, free_quick}
 
 module _ {s : List ℕ} (S : SoundSheet s) {n m : ℕ} {delays from to registers : List ℕ} (L : Loaded s n m delays from to registers) where
   -- what the filler of keys needs
-  pub slow-paths : Slow (listShape n m delays from to) (held registers)
-  slow-paths = record {
+  pub slow_paths : Slow (list_shape n m delays from to) (held registers)
+  slow_paths = record {
     bound = λ u v ws j.
-        let f = formed-core s S.formed in
+        let f = formed_core s S.formed in
         omega (
           arith,
-          slow (shape_of s) (registersIn s) 640000 640000 (omega arith) (free-quick (core_of s) f (registersIn s) S.free) u v ws (joins-same L.same u ws v j),
-          registers-same L.same u ws v j,
-          delay-same L.same L.same-delays u ws v j,
+          slow (shape_of s) (registers_in s) 640000 640000 (omega arith) (free_quick (core_of s) f (registers_in s) S.free) u v ws (joins_same L.same u ws v j),
+          registers_same L.same u ws v j,
+          delay_same L.same L.same_delays u ws v j,
         );
   }
 
-  module _ {raw keys : List ℕ} (K : Keyed (listShape n m delays from to) (held registers) raw) (F : Folded m from to registers raw keys) where
-    n-is : n ≡ blocksIn s
-    n-is = L.same.n-is
+  module _ {raw keys : List ℕ} (K : Keyed (list_shape n m delays from to) (held registers) raw) (F : Folded m from to registers raw keys) where
+    n_is : n ≡ blocks_in s
+    n_is = L.same.n_is
 
-    m-is : m ≡ wiresIn s
-    m-is = L.same.m-is
+    m_is : m ≡ wires_in s
+    m_is = L.same.m_is
 
     -- an entry of the path table
-    real : (u v k : ℕ) → u < blocksIn s → v < blocksIn s → Loose k ⊎ ((W : ℕ) × (D : ℕ) × Way (listShape n m delays from to) (held registers) u v W D × (k + D ≡ (W + 1) * 1048576)) → Key s u v k
+    real : (u v k : ℕ) → u < blocks_in s → v < blocks_in s → Loose k ⊎ ((W : ℕ) × (D : ℕ) × Way (list_shape n m delays from to) (held registers) u v W D × (k + D ≡ (W + 1) * 1048576)) → Key s u v k
     real u v k hu hv (inl l) = loose l
-    real u v k hu hv (inr w) = path hu hv w.0 w.1 (way_same L.same L.same-delays u v w.0 w.1 w.2) w.3
+    real u v k hu hv (inr w) = path hu hv w.0 w.1 (way_same L.same L.same_delays u v w.0 w.1 w.2) w.3
 
-    raw-key : (u v : ℕ) → u < 64 → v < 64 → Dec (u < n) → Dec (v < n) → Key s u v (get_or raw (v * 64 + u) 0)
-    raw-key u v hu hv (yes a) (yes b) = real u v _ (omega (arith, n-is)) (omega (arith, n-is)) (K.right u v a b).real
-    raw-key u v hu hv (no a) b = loose (K.outside u v hu hv (inl (omega arith)))
-    raw-key u v hu hv (yes a) (no b) = loose (K.outside u v hu hv (inr (omega arith)))
+    raw_key : (u v : ℕ) → u < 64 → v < 64 → Dec (u < n) → Dec (v < n) → Key s u v (get_or raw (v * 64 + u) 0)
+    raw_key u v hu hv (yes a) (yes b) = real u v _ (omega (arith, n_is)) (omega (arith, n_is)) (K.right u v a b).real
+    raw_key u v hu hv (no a) b = loose (K.outside u v hu hv (inl (omega arith)))
+    raw_key u v hu hv (yes a) (no b) = loose (K.outside u v hu hv (inr (omega arith)))
 
     abbrev Falls : ℕ → Type 0
     Falls i = (get_or keys i 0 ≡ get_or raw i 0)
         ⊎ ((j : ℕ) × (j < m) × (i ≡ get_or from j 0 * 64 + get_or to j 0) × (get_or keys i 0 ≡ (2001 - get_or registers j 0) * 1048576))
 
-    folded-key : (u v : ℕ) → u < 64 → v < 64 → Falls (v * 64 + u) → Key s u v (get_or keys (v * 64 + u) 0)
-    folded-key u v hu hv (inl e) = rw e (raw-key u v hu hv (dec_lt u n) (dec_lt v n))
-    folded-key u v hu hv (inr w) =
+    folded_key : (u v : ℕ) → u < 64 → v < 64 → Falls (v * 64 + u) → Key s u v (get_or keys (v * 64 + u) 0)
+    folded_key u v hu hv (inl e) = rw e (raw_key u v hu hv (dec_lt u n) (dec_lt v n))
+    folded_key u v hu hv (inr w) =
         let j = w.0 in
         let h = w.1 in
-        let t : get_or to j 0 < 64 = omega (arith, L.wires.to_block j h, L.wires.few-blocks) in
-        let f : get_or from j 0 < 64 = omega (arith, L.wires.from_block j h, L.wires.few-blocks) in
+        let t : get_or to j 0 < 64 = omega (arith, L.wires.to_block j h, L.wires.few_blocks) in
+        let f : get_or from j 0 < 64 = omega (arith, L.wires.from_block j h, L.wires.few_blocks) in
         let q = w.2 in
         let ev : v ≡ get_or from j 0 = omega arith in
         let eu : u ≡ get_or to j 0 = omega arith in
-        ceiling j (omega (arith, m-is)) (ev ∙ L.same.from_is j h) (eu ∙ L.same.to_is j h) (omega (arith, w.3, L.same.w-is j h, L.wires.few j h))
+        ceiling j (omega (arith, m_is)) (ev ∙ L.same.from_is j h) (eu ∙ L.same.to_is j h) (omega (arith, w.3, L.same.w_is j h, L.wires.few j h))
 
-    raw-small : (i : ℕ) → Dec (i < 4096) → get_or raw i 0 ≤ 2099249152
-    raw-small i (yes h) =
+    raw_small : (i : ℕ) → Dec (i < 4096) → get_or raw i 0 ≤ 2099249152
+    raw_small i (yes h) =
         let e : i / 64 * 64 + i % 64 ≡ i = omega arith in
         rw e at (K.high (i % 64) (i / 64) (omega arith) (omega arith))
-    raw-small i (no h) = omega (arith, get_or-eq_default {A = ℕ} raw 0 {n = i} (omega (arith, K.long)))
+    raw_small i (no h) = omega (arith, get_or-eq_default {A = ℕ} raw 0 {n = i} (omega (arith, K.long)))
 
     pub ruled : {lower₀ upper₀ lower upper : List ℕ} → lower₀ ≡ replicate 64 32768 → upper₀ ≡ replicate 64 32768
-        → (lower ≡ filled (λ b. excess (lowerIn s b)) n lower₀) × (upper ≡ filled (λ b. excess (upperIn s b)) n upper₀) → Ruled s keys lower upper
+        → (lower ≡ filled (λ b. excess (lower_in s b)) n lower₀) × (upper ≡ filled (λ b. excess (upper_in s b)) n upper₀) → Ruled s keys lower upper
     ruled {lower₀} {upper₀} {lower} {upper} lz uz limits = record {
       sound = S;
-      keys-long = F.long;
-      lower_long = ap length limits.0 ∙ length-filled _ n lower₀ ∙ ap length lz ∙ length-replicate {A = ℕ} 64 32768;
-      upper_long = ap length limits.1 ∙ length-filled _ n upper₀ ∙ ap length uz ∙ length-replicate {A = ℕ} 64 32768;
-      small = λ i. omega (arith, F.falls i, raw-small i (dec_lt i 4096));
-      key = λ u v hu hv. folded-key u v hu hv (F.real (v * 64 + u));
+      keys_long = F.long;
+      lower_long = ap length limits.0 ∙ length_filled _ n lower₀ ∙ ap length lz ∙ length-replicate {A = ℕ} 64 32768;
+      upper_long = ap length limits.1 ∙ length_filled _ n upper₀ ∙ ap length uz ∙ length-replicate {A = ℕ} 64 32768;
+      small = λ i. omega (arith, F.falls i, raw_small i (dec_lt i 4096));
+      key = λ u v hu hv. folded_key u v hu hv (F.real (v * 64 + u));
       paths = λ u v ws j.
-          let back = joins-same (same-sym L.same) u ws v j in
-          let hu = joins-start-lt _ u ws v back in
-          let hv = joins-end-lt _ u ws v back in
+          let back = joins_same (same_sym L.same) u ws v j in
+          let hu = joins_start_lt _ u ws v back in
+          let hv = joins_end_lt _ u ws v back in
           omega (
             arith,
             F.falls (v * 64 + u),
             (K.right u v hu hv).least ws back,
-            registers-same L.same u ws v back,
-            delay-same L.same L.same-delays u ws v back,
+            registers_same L.same u ws v back,
+            delay_same L.same L.same_delays u ws v back,
           );
       ceilings = λ j h.
-          let k : j < m = omega (arith, m-is) in
+          let k : j < m = omega (arith, m_is) in
           let f = L.same.from_is j k in
           let t = L.same.to_is j k in
-          let at : get_or from j 0 * 64 + get_or to j 0 ≡ fromIn s j * 64 + toIn s j = omega arith in
-          omega (arith, rw at at (F.held j k), L.same.w-is j k, L.wires.few j k);
-      lower-is = λ b h. ap (λ (l : List ℕ). get_or l b 0) limits.0 ∙ filled_at _ n lower₀ b 0 (omega (arith, n-is)) (omega (arith, L.wires.few-blocks, ap length lz, length-replicate {A = ℕ} 64 32768));
-      upper_is = λ b h. ap (λ (l : List ℕ). get_or l b 0) limits.1 ∙ filled_at _ n upper₀ b 0 (omega (arith, n-is)) (omega (arith, L.wires.few-blocks, ap length uz, length-replicate {A = ℕ} 64 32768));
-      lower-other = λ b h k. ap (λ (l : List ℕ). get_or l b 0) limits.0 ∙ filled-past _ n lower₀ b 0 (omega (arith, n-is)) ∙ ap (λ (l : List ℕ). get_or l b 0) lz ∙ get_or-replicate 64 b 32768 0 h;
-      upper-other = λ b h k. ap (λ (l : List ℕ). get_or l b 0) limits.1 ∙ filled-past _ n upper₀ b 0 (omega (arith, n-is)) ∙ ap (λ (l : List ℕ). get_or l b 0) uz ∙ get_or-replicate 64 b 32768 0 h;
+          let at : get_or from j 0 * 64 + get_or to j 0 ≡ from_in s j * 64 + to_in s j = omega arith in
+          omega (arith, rw at at (F.held j k), L.same.w_is j k, L.wires.few j k);
+      lower_is = λ b h. ap (λ (l : List ℕ). get_or l b 0) limits.0 ∙ filled_at _ n lower₀ b 0 (omega (arith, n_is)) (omega (arith, L.wires.few_blocks, ap length lz, length-replicate {A = ℕ} 64 32768));
+      upper_is = λ b h. ap (λ (l : List ℕ). get_or l b 0) limits.1 ∙ filled_at _ n upper₀ b 0 (omega (arith, n_is)) (omega (arith, L.wires.few_blocks, ap length uz, length-replicate {A = ℕ} 64 32768));
+      lower_other = λ b h k. ap (λ (l : List ℕ). get_or l b 0) limits.0 ∙ filled_past _ n lower₀ b 0 (omega (arith, n_is)) ∙ ap (λ (l : List ℕ). get_or l b 0) lz ∙ get_or-replicate 64 b 32768 0 h;
+      upper_other = λ b h k. ap (λ (l : List ℕ). get_or l b 0) limits.1 ∙ filled_past _ n upper₀ b 0 (omega (arith, n_is)) ∙ ap (λ (l : List ℕ). get_or l b 0) uz ∙ get_or-replicate 64 b 32768 0 h;
     }

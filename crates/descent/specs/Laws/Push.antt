@@ -6,32 +6,32 @@ use Rattle.descent.specs.State.{Below, State, Stays, Lowered, Pushed}
 use Rattle.descent.specs.Laws.System.{whole}
 
 module _ {keys lower upper : List ℕ} {c v : ℕ} {e e' links' : List ℕ} (S : State keys lower upper c e) (hv : v < 64) (P : Pushed keys c v (get_or e v 0) e e' links' 64) where
-  pub no-rise : (u : ℕ) → u < 64 → get_or e' u 0 ≤ get_or e u 0
-  no-rise u h = go (P.done u h)
+  pub no_rise : (u : ℕ) → u < 64 → get_or e' u 0 ≤ get_or e u 0
+  no_rise u h = go (P.done u h)
     where
       go : Lowered keys c v (get_or e v 0) e e' u → get_or e' u 0 ≤ get_or e u 0
       go (inl l) = omega (arith, l)
       go (inr l) = omega (arith, l.1)
 
-  pub pushed-below : Below keys lower upper c e'
-  pushed-below s K u h = go (P.done u h)
+  pub pushed_below : Below keys lower upper c e'
+  pushed_below s K u h = go (P.done u h)
     where
       go : Lowered keys c v (get_or e v 0) e e' u → s u ≤ get_or e' u 0
       go (inl l) = omega (arith, l.1, whole K u v h hv, S.most s K v hv)
       go (inr l) = omega (arith, l.1, S.most s K u h)
 
-  pub pushed-state : ((u : ℕ) → u < 64 → get_or lower u 0 ≤ get_or e' u 0) → State keys lower upper c e'
-  pushed-state low = record {
+  pub pushed_state : ((u : ℕ) → u < 64 → get_or lower u 0 ≤ get_or e' u 0) → State keys lower upper c e'
+  pushed_state low = record {
     fit = S.fit;
-    e-long = P.e-long;
-    most = pushed-below;
+    e_long = P.e_long;
+    most = pushed_below;
     low = low;
-    high = λ u h. omega (arith, no-rise u h, S.high u h);
+    high = λ u h. omega (arith, no_rise u h, S.high u h);
   }
 
   -- where v stands as it did, its rules hold now
-  pub own-kept : get_or e' v 0 ≡ get_or e v 0 → (u : ℕ) → u < 64 → Stays keys c v (get_or e' v 0) e' u
-  own-kept q u h = go (P.done u h)
+  pub own_kept : get_or e' v 0 ≡ get_or e v 0 → (u : ℕ) → u < 64 → Stays keys c v (get_or e' v 0) e' u
+  own_kept q u h = go (P.done u h)
     where
       go : Lowered keys c v (get_or e v 0) e e' u → Stays keys c v (get_or e' v 0) e' u
       go (inl l) = omega (arith, l.1)
@@ -39,4 +39,4 @@ module _ {keys lower upper : List ℕ} {c v : ℕ} {e e' links' : List ℕ} (S :
 
   -- and where w stands as it did, rules of w that held hold still
   pub still_kept : (w : ℕ) → get_or e' w 0 ≡ get_or e w 0 → ((u : ℕ) → u < 64 → Stays keys c w (get_or e w 0) e u) → (u : ℕ) → u < 64 → Stays keys c w (get_or e' w 0) e' u
-  still_kept w q f u h = omega (arith, f u h, no-rise u h)
+  still_kept w q f u h = omega (arith, f u h, no_rise u h)

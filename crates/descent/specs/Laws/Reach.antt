@@ -6,17 +6,17 @@ use Rattle.std.proofs.Math.Decide.{dec_le}
 use Rattle.descent.specs.System.{key, Floor}
 use Rattle.descent.specs.State.{AtRest, Settled}
 use Rattle.descent.specs.Least.{LeastRest, Kept, Lags, Resting, Reach, Scaled, Near, Nearing, Nears}
-use Rattle.descent.specs.Laws.System.{state-stays, floor-none}
+use Rattle.descent.specs.Laws.System.{state_stays, floor_none}
 
 -- ---- scaled lags
-pub lag-small : {e : List ℕ} {u : ℕ} → Lags e → u < 64 → (31768 ≤ get_or e u 0) × (get_or e u 0 ≤ 33768)
-lag-small {u = u} L h = (L.low u h, L.high u h)
+pub lag_small : {e : List ℕ} {u : ℕ} → Lags e → u < 64 → (31768 ≤ get_or e u 0) × (get_or e u 0 ≤ 33768)
+lag_small {u = u} L h = (L.low u h, L.high u h)
 
-pub scale-start : (e scaled : List ℕ) → length scaled ≡ 64 → Scaled e scaled 0
-scale-start e scaled l = record { long = l; each = λ u h. absurd (omega (arith, h)) }
+pub scale_start : (e scaled : List ℕ) → length scaled ≡ 64 → Scaled e scaled 0
+scale_start e scaled l = record { long = l; each = λ u h. absurd (omega (arith, h)) }
 
-pub scale-more : {e scaled : List ℕ} {u : ℕ} (x : ℕ) → Scaled e scaled u → u < 64 → x + 31768 * 1048576 ≡ get_or e u 0 * 1048576 + 1048576 → Scaled e (set scaled u x) (u + 1)
-scale-more {e} {scaled} {u} x S h q = record {
+pub scale_more : {e scaled : List ℕ} {u : ℕ} (x : ℕ) → Scaled e scaled u → u < 64 → x + 31768 * 1048576 ≡ get_or e u 0 * 1048576 + 1048576 → Scaled e (set scaled u x) (u + 1)
+scale_more {e} {scaled} {u} x S h q = record {
   long = length-set scaled u x ∙ S.long;
   each =
       below_more (λ (w : ℕ). get_or (set scaled u x) w 0 + 31768 * 1048576 ≡ get_or e w 0 * 1048576 + 1048576) u
@@ -24,19 +24,19 @@ scale-more {e} {scaled} {u} x S h q = record {
       (omega (arith, get_or-set_same scaled u x 0 (omega (arith, S.long))));
 }
 
-pub scale-end : {e scaled : List ℕ} {u : ℕ} → Scaled e scaled u → 64 ≤ u → u ≤ 64 → Scaled e scaled 64
-scale-end {u = u} S le ge = let q : u ≡ 64 = omega arith in rw (← q) S
+pub scale_end : {e scaled : List ℕ} {u : ℕ} → Scaled e scaled u → 64 ≤ u → u ≤ 64 → Scaled e scaled 64
+scale_end {u = u} S le ge = let q : u ≡ 64 = omega arith in rw (← q) S
 
 -- ---- the rules with one block
-pub near-start : (keys scaled : List ℕ) (v plus best : ℕ) → Near keys scaled v plus best 0 best
-near-start keys scaled v plus best = record { within = omega arith; each = λ u h. absurd (omega (arith, h)); most = λ d h _. h }
+pub near_start : (keys scaled : List ℕ) (v plus best : ℕ) → Near keys scaled v plus best 0 best
+near_start keys scaled v plus best = record { within = omega arith; each = λ u h. absurd (omega (arith, h)); most = λ d h _. h }
 
-pub near-key : {keys scaled : List ℕ} {v plus u : ℕ} → Nearing keys scaled v plus → u < 64 → (get_or keys (v * 64 + u) 0 ≤ 2099249152) × (get_or scaled u 0 ≤ get_or keys (v * 64 + u) 0 + plus)
-near-key {v = v} {u = u} N h = (N.keys-small (v * 64 + u), N.enough u h)
+pub near_key : {keys scaled : List ℕ} {v plus u : ℕ} → Nearing keys scaled v plus → u < 64 → (get_or keys (v * 64 + u) 0 ≤ 2099249152) × (get_or scaled u 0 ≤ get_or keys (v * 64 + u) 0 + plus)
+near_key {v = v} {u = u} N h = (N.keys_small (v * 64 + u), N.enough u h)
 
 module _ {keys scaled : List ℕ} {v plus best u r : ℕ} (N : Near keys scaled v plus best u r) {x : ℕ} (q : x + get_or scaled u 0 ≡ get_or keys (v * 64 + u) 0 + plus) where
-  pub near-less : x < r → Near keys scaled v plus best (u + 1) x
-  near-less h = record {
+  pub near_less : x < r → Near keys scaled v plus best (u + 1) x
+  near_less h = record {
     within = omega (arith, N.within);
     each = below_more (λ (w : ℕ). x + get_or scaled w 0 ≤ get_or keys (v * 64 + w) 0 + plus) u (λ w l. omega (arith, N.each w l)) (omega arith);
     most = λ d _ f. omega (arith, f u (omega arith));
@@ -49,34 +49,34 @@ module _ {keys scaled : List ℕ} {v plus best u r : ℕ} (N : Near keys scaled 
     most = λ d l f. N.most d l (λ w k. f w (omega arith));
   }
 
-pub near-end : {keys scaled : List ℕ} {v plus best u r : ℕ} → Near keys scaled v plus best u r → 64 ≤ u → u ≤ 64 → Near keys scaled v plus best 64 r
-near-end {u = u} N le ge = let q : u ≡ 64 = omega arith in rw (← q) N
+pub near_end : {keys scaled : List ℕ} {v plus best u r : ℕ} → Near keys scaled v plus best u r → 64 ≤ u → u ≤ 64 → Near keys scaled v plus best 64 r
+near_end {u = u} N le ge = let q : u ≡ 64 = omega arith in rw (← q) N
 
 -- ---- the rules with all blocks
-pub nears-start : (keys e : List ℕ) → Nears keys e 0 1048575
-nears-start keys e = record { within = omega arith; each = λ a b _ h. absurd (omega (arith, h)); most = λ d h _. h }
+pub nears_start : (keys e : List ℕ) → Nears keys e 0 1048575
+nears_start keys e = record { within = omega arith; each = λ a b _ h. absurd (omega (arith, h)); most = λ d h _. h }
 
 module _ {keys e scaled : List ℕ} {v plus : ℕ} (R : Resting keys e) (S : Scaled e scaled 64) (hv : v < 64) (q : plus + 31768 * 1048576 ≡ get_or e v 0 * 1048576 + 1048575) where
   pub nearing : Nearing keys scaled v plus
   nearing = record {
-    keys-long = R.keys-long;
-    keys-small = R.keys-small;
-    scaled-long = S.long;
-    v-small = hv;
-    plus-small = omega (arith, R.lags.high v hv);
+    keys_long = R.keys_long;
+    keys_small = R.keys_small;
+    scaled_long = S.long;
+    v_small = hv;
+    plus_small = omega (arith, R.lags.high v hv);
     enough = λ u h. omega (arith, S.each u h, R.kept u v h hv);
   }
 
-  pub nears-more : {least r : ℕ} → Nears keys e v least → Near keys scaled v plus least 64 r → Nears keys e (v + 1) r
-  nears-more {least} {r} M N = record {
+  pub nears_more : {least r : ℕ} → Nears keys e v least → Near keys scaled v plus least 64 r → Nears keys e (v + 1) r
+  nears_more {least} {r} M N = record {
     within = omega (arith, M.within, N.within);
     each = λ a b ha hb. below_more (λ (w : ℕ). get_or e a 0 * 1048576 + 1048576 + r ≤ get_or e w 0 * 1048576 + key keys a w + 1048575) v
         (λ w l. omega (arith, M.each a w ha l, N.within)) (omega (arith, N.each a ha, S.each a ha)) b hb;
     most = λ d l f. N.most d (M.most d l f) (λ u h. omega (arith, f u v h hv, S.each u h));
   }
 
-pub reach-end : {keys e : List ℕ} {k least r : ℕ} → Nears keys e k least → 64 ≤ k → r + least ≡ 1048575 → Reach keys e r
-reach-end {keys} {e} {k} {least} {r} M le q = record {
+pub reach_end : {keys e : List ℕ} {k least r : ℕ} → Nears keys e k least → 64 ≤ k → r + least ≡ 1048575 → Reach keys e r
+reach_end {keys} {e} {k} {least} {r} M le q = record {
   small = omega arith;
   kept = λ a b ha hb. omega (arith, M.each a b ha (omega arith));
   least = λ d K. short d K (dec_le 1048575 d);
@@ -92,29 +92,29 @@ module _ {keys lower upper : List ℕ} {c : ℕ} {e : List ℕ} (A : AtRest keys
   resting h =
       let S = A.state in
       record {
-        keys-long = S.fit.keys-long;
-        keys-small = S.fit.keys-small;
+        keys_long = S.fit.keys_long;
+        keys_small = S.fit.keys_small;
         lags = record {
-          long = S.e-long;
+          long = S.e_long;
           low = λ b l. omega (arith, S.low b l, S.fit.low b l);
           high = λ b l. omega (arith, S.high b l, S.fit.high b l);
         };
         kept = λ a b ha hb. omega (arith, A.keeps.rule a b ha hb);
       }
 
-  pub reach-within : {r : ℕ} → Reach keys e r → r ≤ c
-  reach-within R = R.least c A.keeps.rule
+  pub reach_within : {r : ℕ} → Reach keys e r → r ≤ c
+  reach_within R = R.least c A.keeps.rule
 
   -- lags at rest are at rest at the period that they reach
-  pub reach-rest : {r : ℕ} → Reach keys e r → AtRest keys lower upper r e
-  reach-rest R = record {
-    state = state-stays (reach-within R) A.state;
+  pub reach_rest : {r : ℕ} → Reach keys e r → AtRest keys lower upper r e
+  reach_rest R = record {
+    state = state_stays (reach_within R) A.state;
     keeps = record { rule = R.kept; low = A.keeps.low; high = A.keeps.high };
   }
 
   -- no floor is above them
-  pub floor-under : {low : ℕ} → Floor keys lower upper low → low ≤ c
-  floor-under {low} F = go (dec_le low c)
+  pub floor_under : {low : ℕ} → Floor keys lower upper low → low ≤ c
+  floor_under {low} F = go (dec_le low c)
     where
       go : Dec (low ≤ c) → low ≤ c
       go (yes h) = h
@@ -126,26 +126,26 @@ pub record Searched (keys lower upper : List ℕ) (c low high : ℕ) (e : List �
   pub floor : Floor keys lower upper low
   pub within : high ≤ c
 
-pub search-start : {keys lower upper : List ℕ} {c r : ℕ} {e : List ℕ} → AtRest keys lower upper c e → Reach keys e r → Searched keys lower upper c 0 r e
-search-start A R = record { rest = reach-rest A R; floor = floor-none; within = reach-within A R }
+pub search_start : {keys lower upper : List ℕ} {c r : ℕ} {e : List ℕ} → AtRest keys lower upper c e → Reach keys e r → Searched keys lower upper c 0 r e
+search_start A R = record { rest = reach_rest A R; floor = floor_none; within = reach_within A R }
 
 module _ {keys lower upper : List ℕ} {c low high : ℕ} {e : List ℕ} (H : Searched keys lower upper c low high e) {middle : ℕ} {e' links' : List ℕ} {r : ℕ} (T : Settled keys lower upper middle e' links' r) where
   -- lags at rest at the middle
-  pub search-less : {h : ℕ} → r ≡ 0 → Reach keys e' h → h ≤ middle
-  search-less z R = reach-within (T.rest z) R
+  pub search_less : {h : ℕ} → r ≡ 0 → Reach keys e' h → h ≤ middle
+  search_less z R = reach_within (T.rest z) R
 
-  pub search-down : {h : ℕ} → r ≡ 0 → middle ≤ high → Reach keys e' h → Searched keys lower upper c low h e'
-  search-down z le R = record {
-    rest = reach-rest (T.rest z) R;
+  pub search_down : {h : ℕ} → r ≡ 0 → middle ≤ high → Reach keys e' h → Searched keys lower upper c low h e'
+  search_down z le R = record {
+    rest = reach_rest (T.rest z) R;
     floor = H.floor;
-    within = omega (arith, reach-within (T.rest z) R, H.within);
+    within = omega (arith, reach_within (T.rest z) R, H.within);
   }
 
   -- none below r
-  pub search-up : (r ≡ 0 → ⊥) → Searched keys lower upper c r high e × (middle < r) × (r ≤ high)
-  search-up n =
+  pub search_up : (r ≡ 0 → ⊥) → Searched keys lower upper c r high e × (middle < r) × (r ≤ high)
+  search_up n =
       let q = T.stop.none n in
-      (record { rest = H.rest; floor = q.1; within = H.within }, q.0, floor-under H.rest q.1)
+      (record { rest = H.rest; floor = q.1; within = H.within }, q.0, floor_under H.rest q.1)
 
-pub search-end : {keys lower upper : List ℕ} {c low high : ℕ} {e : List ℕ} → Searched keys lower upper c low high e → high ≤ low → LeastRest keys lower upper c high e
-search-end H le = record { rest = H.rest; floor = λ d s h K. H.floor d s (omega arith) K; within = H.within }
+pub search_end : {keys lower upper : List ℕ} {c low high : ℕ} {e : List ℕ} → Searched keys lower upper c low high e → high ≤ low → LeastRest keys lower upper c high e
+search_end H le = record { rest = H.rest; floor = λ d s h K. H.floor d s (omega arith) K; within = H.within }

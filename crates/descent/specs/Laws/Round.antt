@@ -4,11 +4,11 @@ use Rattle.std.specs.Prelude.{ℕ, ◌+◌, ◌<◌, ◌≤◌, ◌≡◌, refl,
 use Rattle.std.proofs.Common.{sym, ◌∙◌, inl, inr, arith, below_more, length-set, get_or-set_same, get_or-set_other}
 use Rattle.std.proofs.Math.Decide.{ℕ_discrete}
 use Rattle.std.proofs.lemmas.List.{get_or-replicate, length-replicate}
-use Rattle.sheet.specs.Laws.Sum.{sum, sum-set}
+use Rattle.sheet.specs.Laws.Sum.{sum, sum_set}
 use Rattle.descent.specs.State.{State, Column, Counted, Stays, Pushed, Under, Stop, work, Going, Stepped, Rounded, Left, Settled}
 use Rattle.descent.specs.Chain.{Sinking}
-use Rattle.descent.specs.Laws.System.{at_rest, state-stays, says_nothing}
-use Rattle.descent.specs.Laws.Push.{no-rise, pushed-below, pushed-state, own-kept, still_kept}
+use Rattle.descent.specs.Laws.System.{at_rest, state_stays, says_nothing}
+use Rattle.descent.specs.Laws.Push.{no_rise, pushed_below, pushed_state, own_kept, still_kept}
 
 module _ {keys lower upper : List ℕ} {c : ℕ} {e links seen : List ℕ} (G : Going keys lower upper c e links seen) where
   -- the column of a block, at its lag
@@ -16,66 +16,66 @@ module _ {keys lower upper : List ℕ} {c : ℕ} {e links seen : List ℕ} (G : 
   column {v} h =
       let S = G.state in
       record {
-        table = record { long = S.fit.keys-long; small = S.fit.keys-small; c-small = G.c-small };
-        v-small = h;
-        some-lag = omega (arith, S.low v h, S.fit.low v h);
-        lag-small = omega (arith, S.high v h, S.fit.high v h);
+        table = record { long = S.fit.keys_long; small = S.fit.keys_small; c_small = G.c_small };
+        v_small = h;
+        some_lag = omega (arith, S.low v h, S.fit.low v h);
+        lag_small = omega (arith, S.high v h, S.fit.high v h);
       }
 
   -- ---- one block, at each way out
   module _ {v : ℕ} (hv : v < 64) where
-    pub step-idle : get_or seen v 0 ≡ get_or e v 0 → Stepped keys lower upper c v e seen e links seen 0
-    step-idle z = record {
+    pub step_idle : get_or seen v 0 ≡ get_or e v 0 → Stepped keys lower upper c v e seen e links seen 0
+    step_idle z = record {
       on = λ _. G;
       less = λ _. record { done = inr (refl, refl, sym z) };
-      links-long = G.links-long;
+      links_long = G.links_long;
       stop = says_nothing keys lower upper c;
     }
 
     module _ (moved : get_or seen v 0 ≡ get_or e v 0 → ⊥) where
       -- v is seen where it stands
-      abbrev now-seen : List ℕ
-      now-seen = set seen v (get_or e v 0)
+      abbrev now_seen : List ℕ
+      now_seen = set seen v (get_or e v 0)
 
-      seen-less : sum now-seen < sum seen
-      seen-less = omega (arith, sum-set seen v (get_or e v 0) (omega (arith, G.seen-long)), G.above v hv)
+      seen_less : sum now_seen < sum seen
+      seen_less = omega (arith, sum_set seen v (get_or e v 0) (omega (arith, G.seen_long)), G.above v hv)
 
-      seen_same : (w : ℕ) → (w ≡ v → ⊥) → get_or now-seen w 0 ≡ get_or seen w 0
+      seen_same : (w : ℕ) → (w ≡ v → ⊥) → get_or now_seen w 0 ≡ get_or seen w 0
       seen_same w n = get_or-set_other seen v w (get_or e v 0) 0 n
 
-      seen_here : get_or now-seen v 0 ≡ get_or e v 0
-      seen_here = get_or-set_same seen v (get_or e v 0) 0 (omega (arith, G.seen-long))
+      seen_here : get_or now_seen v 0 ≡ get_or e v 0
+      seen_here = get_or-set_same seen v (get_or e v 0) 0 (omega (arith, G.seen_long))
 
       -- lags that have not risen, and rules that hold where lags stand as they did
       going_on : {e' links' : List ℕ} → State keys lower upper c e' → length links' ≡ 64 → ((w : ℕ) → w < 64 → get_or e' w 0 ≤ get_or e w 0)
           → (get_or e' v 0 ≡ get_or e v 0 → (u : ℕ) → u < 64 → Stays keys c v (get_or e' v 0) e' u)
           → ((w : ℕ) → w < 64 → get_or e' w 0 ≡ get_or e w 0 → ((u : ℕ) → u < 64 → Stays keys c w (get_or e w 0) e u) → (u : ℕ) → u < 64 → Stays keys c w (get_or e' w 0) e' u)
-          → Going keys lower upper c e' links' now-seen
+          → Going keys lower upper c e' links' now_seen
       going_on {e'} S' ll fall own others = record {
         state = S';
-        c-small = G.c-small;
-        links-long = ll;
-        seen-long = length-set seen v (get_or e v 0) ∙ G.seen-long;
+        c_small = G.c_small;
+        links_long = ll;
+        seen_long = length-set seen v (get_or e v 0) ∙ G.seen_long;
         above = λ w h. over w h (ℕ_discrete w v);
         quiet = λ w h. at w h (ℕ_discrete w v);
       }
         where
-          over : (w : ℕ) → w < 64 → Dec (w ≡ v) → get_or e' w 0 ≤ get_or now-seen w 0
+          over : (w : ℕ) → w < 64 → Dec (w ≡ v) → get_or e' w 0 ≤ get_or now_seen w 0
           over w h (yes q) = rw q (omega (arith, fall v hv, seen_here))
           over w h (no n) = omega (arith, fall w h, seen_same w n, G.above w h)
 
-          at : (w : ℕ) → w < 64 → Dec (w ≡ v) → get_or e' w 0 ≡ get_or now-seen w 0 → (u : ℕ) → u < 64 → Stays keys c w (get_or e' w 0) e' u
+          at : (w : ℕ) → w < 64 → Dec (w ≡ v) → get_or e' w 0 ≡ get_or now_seen w 0 → (u : ℕ) → u < 64 → Stays keys c w (get_or e' w 0) e' u
           at w h (yes q) t = rw q (own (rw q at t ∙ seen_here))
           at w h (no n) t =
               let same : get_or e' w 0 ≡ get_or e w 0 = omega (arith, fall w h, seen_same w n, G.above w h, t) in
               others w h same (G.quiet w h (sym same ∙ t ∙ seen_same w n))
 
       -- column v lowers nothing
-      pub step-still : {r : ℕ} → Counted keys c v (get_or e v 0) e 64 r → r ≡ 0 → Stepped keys lower upper c v e seen e links (set seen v (get_or e v 0)) 0
-      step-still C z = record {
-        on = λ _. going_on G.state G.links-long (λ w _. omega arith) (λ _. C.none z) (λ w h _ f. f);
-        less = λ _. record { done = inl (omega (arith, seen-less)) };
-        links-long = G.links-long;
+      pub step_still : {r : ℕ} → Counted keys c v (get_or e v 0) e 64 r → r ≡ 0 → Stepped keys lower upper c v e seen e links (set seen v (get_or e v 0)) 0
+      step_still C z = record {
+        on = λ _. going_on G.state G.links_long (λ w _. omega arith) (λ _. C.none z) (λ w h _ f. f);
+        less = λ _. record { done = inl (omega (arith, seen_less)) };
+        links_long = G.links_long;
         stop = says_nothing keys lower upper c;
       }
 
@@ -83,9 +83,9 @@ module _ {keys lower upper : List ℕ} {c : ℕ} {e links seen : List ℕ} (G : 
         -- column v is pushed
         pub step_pushed : {r : ℕ} → sunk ≡ 0 → Stop keys lower upper c r → Stepped keys lower upper c v e seen e' links' (set seen v (get_or e v 0)) r
         step_pushed z T = record {
-          on = λ _. going_on (pushed-state G.state hv P (U.none z)) P.links-long (no-rise G.state hv P) (own-kept G.state hv P) (λ w _. still_kept G.state hv P w);
-          less = λ _. record { done = inl (omega (arith, seen-less, P.less)) };
-          links-long = P.links-long;
+          on = λ _. going_on (pushed_state G.state hv P (U.none z)) P.links_long (no_rise G.state hv P) (own_kept G.state hv P) (λ w _. still_kept G.state hv P w);
+          less = λ _. record { done = inl (omega (arith, seen_less, P.less)) };
+          links_long = P.links_long;
           stop = T;
         }
 
@@ -93,30 +93,30 @@ module _ {keys lower upper : List ℕ} {c : ℕ} {e links seen : List ℕ} (G : 
         pub sinking : (sunk ≡ 0 → ⊥) → Sinking keys lower upper c e'
         sinking n =
             let s = U.some (omega arith) in
-            record { fit = G.state.fit; e-long = P.e-long; most = pushed-below G.state hv P; block = s.0; inside = s.1; under = s.2 }
+            record { fit = G.state.fit; e_long = P.e_long; most = pushed_below G.state hv P; block = s.0; inside = s.1; under = s.2 }
 
-        pub step-sunk : {r : ℕ} → 0 < r → Stop keys lower upper c r → Stepped keys lower upper c v e seen e' links' (set seen v (get_or e v 0)) r
-        step-sunk p T = record { on = λ z. absurd (omega (arith, z)); less = λ z. absurd (omega (arith, z)); links-long = P.links-long; stop = T }
+        pub step_sunk : {r : ℕ} → 0 < r → Stop keys lower upper c r → Stepped keys lower upper c v e seen e' links' (set seen v (get_or e v 0)) r
+        step_sunk p T = record { on = λ z. absurd (omega (arith, z)); less = λ z. absurd (omega (arith, z)); links_long = P.links_long; stop = T }
 
   -- ---- one round
-  pub round-start : Rounded keys lower upper c 0 e seen e links seen 0
-  round-start = record {
+  pub round_start : Rounded keys lower upper c 0 e seen e links seen 0
+  round_start = record {
     on = λ _. G;
     less = λ _. record { done = inr (refl, refl, λ w h. absurd (omega (arith, h))) };
-    links-long = G.links-long;
+    links_long = G.links_long;
     stop = says_nothing keys lower upper c;
   }
 
 module _ {keys lower upper : List ℕ} {c : ℕ} {e seen e₁ links₁ seen₁ : List ℕ} {v : ℕ} (R : Rounded keys lower upper c v e seen e₁ links₁ seen₁ 0) where
-  pub round-going : Going keys lower upper c e₁ links₁ seen₁
-  round-going = R.on refl
+  pub round_going : Going keys lower upper c e₁ links₁ seen₁
+  round_going = R.on refl
 
   module _ {e₂ links₂ seen₂ : List ℕ} {r : ℕ} (T : Stepped keys lower upper c v e₁ seen₁ e₂ links₂ seen₂ r) where
-    pub round-more : r ≡ 0 → Rounded keys lower upper c (v + 1) e seen e₂ links₂ seen₂ 0
-    round-more z = record {
+    pub round_more : r ≡ 0 → Rounded keys lower upper c (v + 1) e seen e₂ links₂ seen₂ 0
+    round_more z = record {
       on = λ _. T.on z;
       less = λ _. record { done = go (R.less refl).done (T.less z).done };
-      links-long = T.links-long;
+      links_long = T.links_long;
       stop = says_nothing keys lower upper c;
     }
       where
@@ -129,16 +129,16 @@ module _ {keys lower upper : List ℕ} {c : ℕ} {e seen e₁ links₁ seen₁ :
         go (inr a) (inr b) =
             inr (b.0 ∙ a.0, b.1 ∙ a.1, below_more (λ (w : ℕ). get_or e w 0 ≡ get_or seen w 0) v a.2 (rw (a.0, a.1) at b.2))
 
-    pub round-stop : (r ≡ 0 → ⊥) → Rounded keys lower upper c 64 e seen e₂ links₂ seen₂ r
-    round-stop n = record { on = λ z. absurd (n z); less = λ z. absurd (n z); links-long = T.links-long; stop = T.stop }
+    pub round_stop : (r ≡ 0 → ⊥) → Rounded keys lower upper c 64 e seen e₂ links₂ seen₂ r
+    round_stop n = record { on = λ z. absurd (n z); less = λ z. absurd (n z); links_long = T.links_long; stop = T.stop }
 
-  pub round-end : 64 ≤ v → v ≤ 64 → Rounded keys lower upper c 64 e seen e₁ links₁ seen₁ 0
-  round-end le ge = let q : v ≡ 64 = omega arith in rw (← q) R
+  pub round_end : 64 ≤ v → v ≤ 64 → Rounded keys lower upper c 64 e seen e₁ links₁ seen₁ 0
+  round_end le ge = let q : v ≡ 64 = omega arith in rw (← q) R
 
 -- a round where some block has moved leaves less work
-pub round-less : {keys lower upper : List ℕ} {c : ℕ} {e seen e' links' seen' : List ℕ} {r left : ℕ} → Left e seen 64 left → (left ≡ 0 → ⊥)
+pub round_less : {keys lower upper : List ℕ} {c : ℕ} {e seen e' links' seen' : List ℕ} {r left : ℕ} → Left e seen 64 left → (left ≡ 0 → ⊥)
     → Rounded keys lower upper c 64 e seen e' links' seen' r → r ≡ 0 → work e' seen' < work e seen
-round-less {e = e} {seen} {e'} {seen' = seen'} L n R z = go (R.less z).done
+round_less {e = e} {seen} {e'} {seen' = seen'} L n R z = go (R.less z).done
   where
     go : (work e' seen' < work e seen) ⊎ ((e' ≡ e) × (seen' ≡ seen) × ((w : ℕ) → w < 64 → get_or e w 0 ≡ get_or seen w 0)) → work e' seen' < work e seen
     go (inl a) = a
@@ -149,20 +149,20 @@ pub going_start : {keys lower upper : List ℕ} {c c0 : ℕ} {e links : List ℕ
 going_start {e = e} S le hc ll =
     let far : (w : ℕ) → w < 64 → get_or e w 0 < get_or (replicate 64 40000) w 0 = λ w h. omega (arith, get_or-replicate {A = ℕ} 64 w 40000 0 h, S.high w h, S.fit.high w h) in
     record {
-      state = state-stays le S;
-      c-small = hc;
-      links-long = ll;
-      seen-long = length-replicate {A = ℕ} 64 40000;
+      state = state_stays le S;
+      c_small = hc;
+      links_long = ll;
+      seen_long = length-replicate {A = ℕ} 64 40000;
       above = λ w h. omega (arith, far w h);
       quiet = λ w h z. absurd (omega (arith, far w h, z));
     }
 
-pub settle-rest : {keys lower upper : List ℕ} {c : ℕ} {e links seen : List ℕ} {left : ℕ} → Going keys lower upper c e links seen → Left e seen 64 left → left ≡ 0 → Settled keys lower upper c e links 0
-settle-rest {keys} {lower} {upper} {c} G L z = record {
+pub settle_rest : {keys lower upper : List ℕ} {c : ℕ} {e links seen : List ℕ} {left : ℕ} → Going keys lower upper c e links seen → Left e seen 64 left → left ≡ 0 → Settled keys lower upper c e links 0
+settle_rest {keys} {lower} {upper} {c} G L z = record {
   rest = λ _. at_rest G.state (λ w u hw hu. G.quiet w hw (L.none z w hw) u hu);
-  links-long = G.links-long;
+  links_long = G.links_long;
   stop = says_nothing keys lower upper c;
 }
 
-pub settle-none : {keys lower upper : List ℕ} {c : ℕ} {e seen e' links' seen' : List ℕ} {r : ℕ} → Rounded keys lower upper c 64 e seen e' links' seen' r → (r ≡ 0 → ⊥) → Settled keys lower upper c e' links' r
-settle-none R n = record { rest = λ z. absurd (n z); links-long = R.links-long; stop = R.stop }
+pub settle_none : {keys lower upper : List ℕ} {c : ℕ} {e seen e' links' seen' : List ℕ} {r : ℕ} → Rounded keys lower upper c 64 e seen e' links' seen' r → (r ≡ 0 → ⊥) → Settled keys lower upper c e' links' r
+settle_none R n = record { rest = λ z. absurd (n z); links_long = R.links_long; stop = R.stop }

@@ -7,25 +7,25 @@ use Rattle.descent.specs.State.{State, AtRest, Stop, Stays}
 
 -- the start, at every period
 pub begun : {keys lower upper : List ℕ} → Fit keys lower upper → (c : ℕ) → State keys lower upper c upper
-begun F c = record { fit = F; e-long = F.upper_long; most = λ s K b h. K.high b h; low = F.ordered; high = λ b h. omega arith }
+begun F c = record { fit = F; e_long = F.upper_long; most = λ s K b h. K.high b h; low = F.ordered; high = λ b h. omega arith }
 
 -- ---- a shorter period asks for more
-pub keeps-longer : {keys lower upper : List ℕ} {c d : ℕ} {s : ℕ → ℕ} → c ≤ d → Keeps keys lower upper c s → Keeps keys lower upper d s
-keeps-longer le K = record { rule = λ a b ha hb. omega (arith, K.rule a b ha hb); low = K.low; high = K.high }
+pub keeps_longer : {keys lower upper : List ℕ} {c d : ℕ} {s : ℕ → ℕ} → c ≤ d → Keeps keys lower upper c s → Keeps keys lower upper d s
+keeps_longer le K = record { rule = λ a b ha hb. omega (arith, K.rule a b ha hb); low = K.low; high = K.high }
 
-pub state-stays : {keys lower upper : List ℕ} {c d : ℕ} {e : List ℕ} → c ≤ d → State keys lower upper d e → State keys lower upper c e
-state-stays le S = record { fit = S.fit; e-long = S.e-long; most = λ s K. S.most s (keeps-longer le K); low = S.low; high = S.high }
+pub state_stays : {keys lower upper : List ℕ} {c d : ℕ} {e : List ℕ} → c ≤ d → State keys lower upper d e → State keys lower upper c e
+state_stays le S = record { fit = S.fit; e_long = S.e_long; most = λ s K. S.most s (keeps_longer le K); low = S.low; high = S.high }
 
 -- at rest the lags are the largest
-pub rest-largest : {keys lower upper : List ℕ} {c : ℕ} {e : List ℕ} → AtRest keys lower upper c e → (s : ℕ → ℕ) → Keeps keys lower upper c s → (b : ℕ) → b < 64 → s b ≤ get_or e b 0
-rest-largest R = R.state.most
+pub rest_largest : {keys lower upper : List ℕ} {c : ℕ} {e : List ℕ} → AtRest keys lower upper c e → (s : ℕ → ℕ) → Keeps keys lower upper c s → (b : ℕ) → b < 64 → s b ≤ get_or e b 0
+rest_largest R = R.state.most
 
 -- ---- periods without lags
-pub floor-none : {keys lower upper : List ℕ} → Floor keys lower upper 0
-floor-none c s h K = absurd (omega (arith, h))
+pub floor_none : {keys lower upper : List ℕ} → Floor keys lower upper 0
+floor_none c s h K = absurd (omega (arith, h))
 
-pub floor-next : {keys lower upper : List ℕ} {c : ℕ} → ((s : ℕ → ℕ) → Keeps keys lower upper c s → ⊥) → Floor keys lower upper (c + 1)
-floor-next f d s h K = f s (keeps-longer (omega arith) K)
+pub floor_next : {keys lower upper : List ℕ} {c : ℕ} → ((s : ℕ → ℕ) → Keeps keys lower upper c s → ⊥) → Floor keys lower upper (c + 1)
+floor_next f d s h K = f s (keeps_longer (omega arith) K)
 
 pub says_nothing : (keys lower upper : List ℕ) (c : ℕ) → Stop keys lower upper c 0
 says_nothing keys lower upper c = record { none = λ n. absurd (n refl) }

@@ -1,7 +1,7 @@
 -- Tested, or plain.
 use native.Mathlib.Omega.{arith}
 use Rattle.keys.specs.Laws.Entry.{counts_same}
-use Rattle.keys.specs.Laws.Order.{complete-true, ends_of}
+use Rattle.keys.specs.Laws.Order.{complete_true, ends_of}
 use Prim.Native.Nat.{ℕ}
 use lib.ListN.{length-replicate}
 use borrow.Author.Rules.{rules}
@@ -21,13 +21,13 @@ place-requires : tie.Need-place-requires
 place-requires c κs = (ends_of c.before.before.before.before.before.before.before.before.before.before.before.requires.0, c.before.before.before.before.before.before.before.before.before.heights.ensures, c.before.before.before.before.add-up.ensures, length-replicate {A = ℕ} 256 0, c.before.before.before.before.before.before.before.before.before.before.before.requires.1)
 
 complete-requires : tie.Need-complete-requires
-complete-requires c κs = (c.before.before.before.before.before.before.before.before.before.before.before.before.before.before.requires.0.few-wires, c.before.before.place.ensures.0, c.before.before.place.ensures.1)
+complete-requires c κs = (c.before.before.before.before.before.before.before.before.before.before.before.before.before.before.requires.0.few_wires, c.before.before.place.ensures.0, c.before.before.place.ensures.1)
 
 returns : tie.Need-returns
-returns c = complete-true c.before.complete.ensures c.if1.true
+returns c = complete_true c.before.complete.ensures c.if1.true
 
 plain-requires : tie.Need-plain-requires
-plain-requires c κs = (c.before.before.before.before.before.before.before.before.before.before.before.before.before.before.before.before.before.requires.0.few-wires, c.before.before.before.before.before.place.ensures.1)
+plain-requires c κs = (c.before.before.before.before.before.before.before.before.before.before.before.before.before.before.before.before.before.requires.0.few_wires, c.before.before.before.before.before.place.ensures.1)
 
 returns-2 : tie.Need-returns-2
 returns-2 c = search rules

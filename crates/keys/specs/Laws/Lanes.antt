@@ -5,11 +5,11 @@ use Rattle.std.proofs.Common.{◌∙◌, inl, inr, arith, below_more, length-set
 use Rattle.std.proofs.lemmas.List.{set-get_or}
 use Rattle.keys.specs.Keys.{entry}
 use Rattle.keys.specs.Filling.{Within, Lanes}
-use Rattle.sheet.specs.Laws.Sum.{sum-set}
+use Rattle.sheet.specs.Laws.Sum.{sum_set}
 use Rattle.keys.specs.Laws.Entry.{entry_set}
 
-pub lanes-none : (f t plus minus : ℕ) (keys : List ℕ) → length keys ≡ 4096 → Lanes f t plus minus 0 keys keys 0
-lanes-none f t plus minus keys h = record {
+pub lanes_none : (f t plus minus : ℕ) (keys : List ℕ) → length keys ≡ 4096 → Lanes f t plus minus 0 keys keys 0
+lanes_none f t plus minus keys h = record {
   long = h;
   few = omega arith;
   less = omega arith;
@@ -33,7 +33,7 @@ module _ {f t plus minus i : ℕ} {keys₀ keys : List ℕ} {r : ℕ} (L : Lanes
   lower lt = record {
     long = length-set keys (t * 64 + i) x ∙ L.long;
     few = omega (arith, L.few);
-    less = omega (arith, L.less, sum-set keys (t * 64 + i) x (omega (arith, L.long)));
+    less = omega (arith, L.less, sum_set keys (t * 64 + i) x (omega (arith, L.long)));
     same = λ q. absurd (omega (arith, q));
     lowered = below_more (λ (u : ℕ). entry (set keys (t * 64 + i) x) u t + minus ≤ entry keys₀ u f + plus) i
         (λ u l. entry_set (λ (a b k : ℕ). a ≡ u → b ≡ t → k + minus ≤ entry keys₀ u f + plus) keys L.long i t x hi ht
@@ -61,11 +61,11 @@ module _ {f t plus minus i : ℕ} {keys₀ keys : List ℕ} {r : ℕ} (L : Lanes
 
 -- the turns as code takes them
 module _ {f t plus minus i : ℕ} {keys₀ keys : List ℕ} {r : ℕ} (L : Lanes f t plus minus i keys₀ keys r) (hf : f < 64) (ht : t < 64) (hi : i < 64) (W : Within keys₀) (hm : minus ≤ 10000) (new changed : ℕ) where
-  offer-is : entry keys i f + plus - minus + minus ≡ entry keys i f + plus
-  offer-is = omega (arith, lane_room L W hf hi)
+  offer_is : entry keys i f + plus - minus + minus ≡ entry keys i f + plus
+  offer_is = omega (arith, lane_room L W hf hi)
 
-  pub lanes-lower : new ≡ entry keys i f + plus - minus → changed ≡ r + 1 → entry keys i f + plus - minus < entry keys i t → Lanes f t plus minus (i + 1) keys₀ (set keys (t * 64 + i) new) changed
-  lanes-lower en ec lt = rw (en, ec) (lower L hf ht hi (entry keys i f + plus - minus) offer-is lt)
+  pub lanes_lower : new ≡ entry keys i f + plus - minus → changed ≡ r + 1 → entry keys i f + plus - minus < entry keys i t → Lanes f t plus minus (i + 1) keys₀ (set keys (t * 64 + i) new) changed
+  lanes_lower en ec lt = rw (en, ec) (lower L hf ht hi (entry keys i f + plus - minus) offer_is lt)
 
   pub lanes_keep : new ≡ entry keys i t → changed ≡ r → entry keys i t ≤ entry keys i f + plus - minus → Lanes f t plus minus (i + 1) keys₀ (set keys (t * 64 + i) new) changed
-  lanes_keep en ec le = rw (en, ec) (keep L hf ht hi (entry keys i f + plus - minus) offer-is (λ lt. omega (arith, lt, le)))
+  lanes_keep en ec le = rw (en, ec) (keep L hf ht hi (entry keys i f + plus - minus) offer_is (λ lt. omega (arith, lt, le)))

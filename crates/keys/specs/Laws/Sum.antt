@@ -4,7 +4,7 @@ use Rattle.std.specs.Prelude.{List, [], ◌∷◌, ℕ, suc, ◌*◌, ◌≤◌,
 use Rattle.std.proofs.Common.{arith}
 use Rattle.sheet.specs.Laws.Sum.{sum}
 
-pub sum-most : (l : List ℕ) → ((i : ℕ) → i < length l → get_or l i 0 ≤ 2099249152) → sum l ≤ 2099249152 * length l
+pub sum_most : (l : List ℕ) → ((i : ℕ) → i < length l → get_or l i 0 ≤ 2099249152) → sum l ≤ 2099249152 * length l
 unfolding sum
-sum-most [] h = omega arith
-sum-most (x ∷ xs) h = omega (arith, h 0 (omega arith), sum-most xs (λ i l. h (suc i) (omega (arith, l))))
+sum_most [] h = omega arith
+sum_most (x ∷ xs) h = omega (arith, h 0 (omega arith), sum_most xs (λ i l. h (suc i) (omega (arith, l))))

@@ -4,62 +4,62 @@ use Rattle.std.specs.Prelude.{◌≡◌, refl, ◌⊎◌, Bool, true, false, Lis
 use Rattle.std.proofs.Common.{sym, ap, ◌∙◌, subst, inl, inr, arith, below_more, length-set}
 use Rattle.std.proofs.lemmas.List.{length-replicate, get_or-replicate}
 use Rattle.sheet.specs.Core.{Shape}
-use Rattle.paths.specs.Lists.{held, listShape, Wires, Delays}
+use Rattle.paths.specs.Lists.{held, list_shape, Wires, Delays}
 use Rattle.paths.specs.Laws.Way.{Limits}
 use Rattle.keys.specs.Keys.{entry, Turns}
-use Rattle.keys.specs.Filling.{Blank, Lanes, Counts, spotAt, turnAt, News, Stepped, Stepped.idle, Stepped.tried, Standing, Holds, Settling, Sweeping, Swept}
+use Rattle.keys.specs.Filling.{Blank, Lanes, Counts, spot_at, turn_at, News, Stepped, Stepped.idle, Stepped.tried, Standing, Holds, Settling, Sweeping, Swept}
 use Rattle.sheet.specs.Laws.Sum.{sum}
-use Rattle.keys.specs.Laws.Sum.{sum-most}
+use Rattle.keys.specs.Laws.Sum.{sum_most}
 use Rattle.keys.specs.Laws.Entry.{stored, counts_same}
-use Rattle.keys.specs.Laws.Stand.{standing-blank, standing-tried}
+use Rattle.keys.specs.Laws.Stand.{standing_blank, standing_tried}
 
 -- the numbers of a wire
-pub wire-room : {n m : ℕ} {delays from to registers : List ℕ} → Wires n m from to registers → Delays n delays → (j : ℕ) → j < m
+pub wire_room : {n m : ℕ} {delays from to registers : List ℕ} → Wires n m from to registers → Delays n delays → (j : ℕ) → j < m
     → (get_or from j 0 < 64) × (get_or to j 0 < 64) × (get_or registers j 0 ≤ 2000) × (get_or delays (get_or to j 0) 0 ≤ 10000)
-wire-room {to = to} W D j h =
-    (omega (arith, W.from_block j h, W.few-blocks), omega (arith, W.to_block j h, W.few-blocks), W.few j h, D.small (get_or to j 0) (W.to_block j h))
+wire_room {to = to} W D j h =
+    (omega (arith, W.from_block j h, W.few_blocks), omega (arith, W.to_block j h, W.few_blocks), W.few j h, D.small (get_or to j 0) (W.to_block j h))
 
 -- a place, as code counts it
-pub spot-last : (k : ℕ) (back : Bool) (i : ℕ) → i < k → back ≡ true → (k - 1 - i ≡ spotAt k back i) × (k - 1 - i < k)
-spot-last k back i h e = (rw e refl, omega arith)
+pub spot_last : (k : ℕ) (back : Bool) (i : ℕ) → i < k → back ≡ true → (k - 1 - i ≡ spot_at k back i) × (k - 1 - i < k)
+spot_last k back i h e = (rw e refl, omega arith)
 
-pub spot-first : (k : ℕ) (back : Bool) (i : ℕ) → i < k → back ≡ false → (i ≡ spotAt k back i) × (i < k)
-spot-first k back i h e = (rw e refl, h)
+pub spot_first : (k : ℕ) (back : Bool) (i : ℕ) → i < k → back ≡ false → (i ≡ spot_at k back i) × (i < k)
+spot_first k back i h e = (rw e refl, h)
 
 -- every wire has its place, forwards and backwards
-turn-every : {m : ℕ} {turns : List ℕ} → Turns m turns → (back : Bool) (j : ℕ) → j < m → (p : ℕ) × (p < m) × (turnAt m turns back p ≡ j)
-turn-every {m} {turns} T true j h =
+turn_every : {m : ℕ} {turns : List ℕ} → Turns m turns → (back : Bool) (j : ℕ) → j < m → (p : ℕ) × (p < m) × (turn_at m turns back p ≡ j)
+turn_every {m} {turns} T true j h =
     let y = T.every j h in
     let e : m - 1 - (m - 1 - y.0) ≡ y.0 = omega (arith, y.1) in
     (m - 1 - y.0, omega (arith, y.1), ap (λ (i : ℕ). get_or turns i 0) e ∙ y.2)
-turn-every T false j h = T.every j h
+turn_every T false j h = T.every j h
 
 -- a wire lowers at most one entry for each start block
-pub stepped-few : {f t plus minus j : ℕ} {versions seen keys versions' seen' keys' : List ℕ} {r : ℕ} → Stepped f t plus minus j versions seen keys versions' seen' keys' r → r ≤ 64
-stepped-few (idle z _ _ _ _) = omega (arith, z)
-stepped-few (tried _ _ L) = L.few
+pub stepped_few : {f t plus minus j : ℕ} {versions seen keys versions' seen' keys' : List ℕ} {r : ℕ} → Stepped f t plus minus j versions seen keys versions' seen' keys' r → r ≤ 64
+stepped_few (idle z _ _ _ _) = omega (arith, z)
+stepped_few (tried _ _ L) = L.few
 
-stepped-less : {f t plus minus j : ℕ} {versions seen keys versions' seen' keys' : List ℕ} {r : ℕ} → Stepped f t plus minus j versions seen keys versions' seen' keys' r → sum keys' + r ≤ sum keys
-stepped-less (idle z _ _ ek _) = rw (z, ek) (omega arith)
-stepped-less (tried _ _ L) = L.less
+stepped_less : {f t plus minus j : ℕ} {versions seen keys versions' seen' keys' : List ℕ} {r : ℕ} → Stepped f t plus minus j versions seen keys versions' seen' keys' r → sum keys' + r ≤ sum keys
+stepped_less (idle z _ _ ek _) = rw (z, ek) (omega arith)
+stepped_less (tried _ _ L) = L.less
 
 -- the two ends of a meeting, as code comes to them
-pub no-news : {f t plus minus j : ℕ} {versions seen keys seen' : List ℕ} {b : Bool} → News f j versions seen seen' b → b ≡ false → Stepped f t plus minus j versions seen keys versions seen' keys 0
-no-news {f} {j = j} {versions} {seen} {seen' = seen'} N e = let h = subst (News f j versions seen seen') e N in idle refl refl h.0 refl h.1
+pub no_news : {f t plus minus j : ℕ} {versions seen keys seen' : List ℕ} {b : Bool} → News f j versions seen seen' b → b ≡ false → Stepped f t plus minus j versions seen keys versions seen' keys 0
+no_news {f} {j = j} {versions} {seen} {seen' = seen'} N e = let h = subst (News f j versions seen seen') e N in idle refl refl h.0 refl h.1
 
-pub had-news : {f t plus minus j : ℕ} {versions seen keys seen' keys' : List ℕ} {b : Bool} {r : ℕ} → News f j versions seen seen' b → b ≡ true → Lanes f t plus minus 64 keys keys' r
+pub had_news : {f t plus minus j : ℕ} {versions seen keys seen' keys' : List ℕ} {b : Bool} {r : ℕ} → News f j versions seen seen' b → b ≡ true → Lanes f t plus minus 64 keys keys' r
     → Stepped f t plus minus j versions seen keys (set versions t (get_or versions t 0 + r)) seen' keys' r
-had-news {f} {j = j} {versions} {seen} {seen' = seen'} N e L = tried refl (subst (News f j versions seen seen') e N) L
+had_news {f} {j = j} {versions} {seen} {seen' = seen'} N e L = tried refl (subst (News f j versions seen seen') e N) L
 
 module _ {s : Shape} {w : ℕ → ℕ} where
   -- versions stay far below 2^64
-  pub settling-counts : {versions seen keys : List ℕ} → Settling s w versions seen keys → Counts 64 8598524526593 versions
-  settling-counts X = record { long = X.long; few = λ b. omega (arith, X.room b) }
+  pub settling_counts : {versions seen keys : List ℕ} → Settling s w versions seen keys → Counts 64 8598524526593 versions
+  settling_counts X = record { long = X.long; few = λ b. omega (arith, X.room b) }
 
-  pub sweep-none : (turn : ℕ → ℕ) {versions seen keys : List ℕ} → Settling s w versions seen keys → Sweeping s w turn keys 0 versions seen keys 0
-  sweep-none turn X = record { settling = X; few = omega arith; less = omega arith; met = λ _ q h. absurd (omega arith) }
+  pub sweep_none : (turn : ℕ → ℕ) {versions seen keys : List ℕ} → Settling s w versions seen keys → Sweeping s w turn keys 0 versions seen keys 0
+  sweep_none turn X = record { settling = X; few = omega arith; less = omega arith; met = λ _ q h. absurd (omega arith) }
 
-  module _ (g : Limits s w) (narrow : s.n ≤ 64) (few-wires : s.m ≤ 256) (j : ℕ) (hj : j < s.m) {versions seen keys versions' seen' keys' : List ℕ} {r : ℕ}
+  module _ (g : Limits s w) (narrow : s.n ≤ 64) (few_wires : s.m ≤ 256) (j : ℕ) (hj : j < s.m) {versions seen keys versions' seen' keys' : List ℕ} {r : ℕ}
       (X : Settling s w versions seen keys) where
     -- the wire was tried
     module _ (ev : versions' ≡ set versions (s.to j) (get_or versions (s.to j) 0 + r)) (es : seen' ≡ set seen j (get_or versions (s.from j) 0))
@@ -78,83 +78,83 @@ module _ {s : Shape} {w : ℕ → ℕ} where
           go (inl k) = k
           go (inr k) = ap (λ (l : List ℕ). entry l u b) (L.same (omega (arith, q, (grown b).2 k.0)))
 
-      f-low : (i : ℕ) → i < s.m → s.from i < 64
-      f-low i hi = omega (arith, g.from_block i hi)
+      f_low : (i : ℕ) → i < s.m → s.from i < 64
+      f_low i hi = omega (arith, g.from_block i hi)
 
-      t-low : (i : ℕ) → i < s.m → s.to i < 64
-      t-low i hi = omega (arith, g.to_block i hi)
+      t_low : (i : ℕ) → i < s.m → s.to i < 64
+      t_low i hi = omega (arith, g.to_block i hi)
 
-      holds-now : get_or versions' (s.from j) 0 ≡ get_or versions (s.from j) 0 → Holds s w keys' j
-      holds-now q u hu = omega (arith, L.lowered u hu, still (s.from j) (f-low j hj) q u hu)
+      holds_now : get_or versions' (s.from j) 0 ≡ get_or versions (s.from j) 0 → Holds s w keys' j
+      holds_now q u hu = omega (arith, L.lowered u hu, still (s.from j) (f_low j hj) q u hu)
 
       -- a wire that has seen a row's last version had seen it before
-      holds-still : (i : ℕ) → i < s.m → get_or seen i 0 ≡ get_or versions' (s.from i) 0 → Holds s w keys' i
-      holds-still i hi q u hu = omega (
+      holds_still : (i : ℕ) → i < s.m → get_or seen i 0 ≡ get_or versions' (s.from i) 0 → Holds s w keys' i
+      holds_still i hi q u hu = omega (
         arith,
         X.quiet i hi (omega (arith, q, X.past i hi, (grown (s.from i)).0)) u hu,
-        L.falls u (s.to i) hu (t-low i hi),
-        still (s.from i) (f-low i hi) (omega (arith, q, X.past i hi, (grown (s.from i)).0)) u hu,
+        L.falls u (s.to i) hu (t_low i hi),
+        still (s.from i) (f_low i hi) (omega (arith, q, X.past i hi, (grown (s.from i)).0)) u hu,
       )
 
-      j-in : j < length seen
-      j-in = omega (arith, X.wide)
+      j_in : j < length seen
+      j_in = omega (arith, X.wide)
 
-      settling-tried : Settling s w versions' seen' keys'
-      settling-tried = record {
-        standing = standing-tried s w g narrow j hj X.standing L;
+      settling_tried : Settling s w versions' seen' keys'
+      settling_tried = record {
+        standing = standing_tried s w g narrow j hj X.standing L;
         long = ap length ev ∙ length-set versions (s.to j) (get_or versions (s.to j) 0 + r) ∙ X.long;
         wide = ap length es ∙ length-set seen j (get_or versions (s.from j) 0) ∙ X.wide;
         room = λ b. omega (arith, X.room b, (grown b).1, L.less);
-        past = rw es (stored (λ (i y : ℕ). i < s.m → y ≤ get_or versions' (s.from i) 0) seen j (get_or versions (s.from j) 0) j-in
+        past = rw es (stored (λ (i y : ℕ). i < s.m → y ≤ get_or versions' (s.from i) 0) seen j (get_or versions (s.from j) 0) j_in
             (λ _. (grown (s.from j)).0) (λ i _ hi. omega (arith, X.past i hi, (grown (s.from i)).0)));
-        quiet = rw es (stored (λ (i y : ℕ). i < s.m → y ≡ get_or versions' (s.from i) 0 → Holds s w keys' i) seen j (get_or versions (s.from j) 0) j-in
-            (λ _ q. holds-now (sym q)) (λ i _. holds-still i));
+        quiet = rw es (stored (λ (i y : ℕ). i < s.m → y ≡ get_or versions' (s.from i) 0 → Holds s w keys' i) seen j (get_or versions (s.from j) 0) j_in
+            (λ _ q. holds_now (sym q)) (λ i _. holds_still i));
       }
 
     -- wire j holds where it lowered nothing
-    met-now : Stepped (s.from j) (s.to j) (w j * 1048576) (s.delay (s.to j)) j versions seen keys versions' seen' keys' r → r ≡ 0 → (keys' ≡ keys) × Holds s w keys j
-    met-now (idle _ _ _ ek q) z = (ek, X.quiet j hj q)
-    met-now (tried _ _ L) z = (L.same z, λ u hu. omega (arith, L.lowered u hu, ap (λ (l : List ℕ). entry l u (s.to j)) (L.same z)))
+    met_now : Stepped (s.from j) (s.to j) (w j * 1048576) (s.delay (s.to j)) j versions seen keys versions' seen' keys' r → r ≡ 0 → (keys' ≡ keys) × Holds s w keys j
+    met_now (idle _ _ _ ek q) z = (ek, X.quiet j hj q)
+    met_now (tried _ _ L) z = (L.same z, λ u hu. omega (arith, L.lowered u hu, ap (λ (l : List ℕ). entry l u (s.to j)) (L.same z)))
 
-    settling-next : Stepped (s.from j) (s.to j) (w j * 1048576) (s.delay (s.to j)) j versions seen keys versions' seen' keys' r → Settling s w versions' seen' keys'
-    settling-next (idle _ ev es ek _) = rw (ev, es, ek) X
-    settling-next (tried ev es L) = settling-tried ev es L
+    settling_next : Stepped (s.from j) (s.to j) (w j * 1048576) (s.delay (s.to j)) j versions seen keys versions' seen' keys' r → Settling s w versions' seen' keys'
+    settling_next (idle _ ev es ek _) = rw (ev, es, ek) X
+    settling_next (tried ev es L) = settling_tried ev es L
 
-  pub sweep-turn : Limits s w → s.n ≤ 64 → s.m ≤ 256 → {turn : ℕ → ℕ} {first versions seen keys versions' seen' keys' : List ℕ} {p changed r : ℕ} (j : ℕ) → j < s.m → j ≡ turn p
+  pub sweep_turn : Limits s w → s.n ≤ 64 → s.m ≤ 256 → {turn : ℕ → ℕ} {first versions seen keys versions' seen' keys' : List ℕ} {p changed r : ℕ} (j : ℕ) → j < s.m → j ≡ turn p
       → Sweeping s w turn first p versions seen keys changed → Stepped (s.from j) (s.to j) (w j * 1048576) (s.delay (s.to j)) j versions seen keys versions' seen' keys' r → Sweeping s w turn first (p + 1) versions' seen' keys' (changed + r)
-  sweep-turn g narrow few-wires {turn} {first} {versions} {seen} {keys} {versions'} {seen'} {keys'} {p} {changed} {r} j hj is X Y = record {
-    settling = settling-next g narrow few-wires j hj X.settling Y;
-    few = omega (arith, X.few, stepped-few Y);
-    less = omega (arith, X.less, stepped-less Y);
-    met = λ z. let y = met-now g narrow few-wires j hj X.settling Y (omega (arith, z)) in
+  sweep_turn g narrow few_wires {turn} {first} {versions} {seen} {keys} {versions'} {seen'} {keys'} {p} {changed} {r} j hj is X Y = record {
+    settling = settling_next g narrow few_wires j hj X.settling Y;
+    few = omega (arith, X.few, stepped_few Y);
+    less = omega (arith, X.less, stepped_less Y);
+    met = λ z. let y = met_now g narrow few_wires j hj X.settling Y (omega (arith, z)) in
         rw y.0 (below_more (λ (q : ℕ). Holds s w keys (turn q)) p (X.met (omega (arith, z))) (rw (← is) y.1));
   }
 
-  pub sweep-ends : {turns : List ℕ} (back : Bool) {first versions seen keys : List ℕ} {p changed : ℕ} → Turns s.m turns → s.m ≤ p → p ≤ s.m
-      → Sweeping s w (turnAt s.m turns back) first p versions seen keys changed → Swept s w first versions seen keys changed
-  sweep-ends {turns} back {keys = keys} T h1 h2 X = record {
+  pub sweep_ends : {turns : List ℕ} (back : Bool) {first versions seen keys : List ℕ} {p changed : ℕ} → Turns s.m turns → s.m ≤ p → p ≤ s.m
+      → Sweeping s w (turn_at s.m turns back) first p versions seen keys changed → Swept s w first versions seen keys changed
+  sweep_ends {turns} back {keys = keys} T h1 h2 X = record {
     settling = X.settling;
     less = X.less;
-    ended = λ z j hj. let y = turn-every T back j hj in subst (Holds s w keys) y.2 (X.met z y.0 (omega (arith, y.1)));
+    ended = λ z j hj. let y = turn_every T back j hj in subst (Holds s w keys) y.2 (X.met z y.0 (omega (arith, y.1)));
   }
 
 -- before the first sweep no wire has seen its start's row
-pub settling-start : {n m : ℕ} {delays from to registers keys : List ℕ} → Wires n m from to registers → Blank n delays keys
-    → Settling (listShape n m delays from to) (held registers) (replicate 64 1) (replicate 256 0) keys
-settling-start {n} {m} {delays} {from} {to} {registers} {keys} W B = record {
+pub settling_start : {n m : ℕ} {delays from to registers keys : List ℕ} → Wires n m from to registers → Blank n delays keys
+    → Settling (list_shape n m delays from to) (held registers) (replicate 64 1) (replicate 256 0) keys
+settling_start {n} {m} {delays} {from} {to} {registers} {keys} W B = record {
   standing = T;
   long = length-replicate {A = ℕ} 64 1;
   wide = length-replicate {A = ℕ} 256 0;
-  room = λ b. omega (arith, (counts_same 64 1 1 (omega arith)).few b, sum-most keys high, B.long);
+  room = λ b. omega (arith, (counts_same 64 1 1 (omega arith)).few b, sum_most keys high, B.long);
   past = λ j h. omega (arith, seen j h);
-  quiet = λ j h q. absurd (omega (arith, q, seen j h, get_or-replicate {A = ℕ} 64 (get_or from j 0) 1 0 (omega (arith, W.from_block j h, W.few-blocks))));
+  quiet = λ j h q. absurd (omega (arith, q, seen j h, get_or-replicate {A = ℕ} 64 (get_or from j 0) 1 0 (omega (arith, W.from_block j h, W.few_blocks))));
 }
   where
-    T : Standing (listShape n m delays from to) (held registers) keys
-    T = standing-blank (listShape n m delays from to) (held registers) W.few-blocks B (λ b. refl)
+    T : Standing (list_shape n m delays from to) (held registers) keys
+    T = standing_blank (list_shape n m delays from to) (held registers) W.few_blocks B (λ b. refl)
 
     seen : (j : ℕ) → j < m → ◌≡◌ {A = ℕ} (get_or (replicate 256 0) j 0) 0
-    seen j h = get_or-replicate {A = ℕ} 256 j 0 0 (omega (arith, h, W.few-wires))
+    seen j h = get_or-replicate {A = ℕ} 256 j 0 0 (omega (arith, h, W.few_wires))
 
     high : (i : ℕ) → i < length keys → get_or keys i 0 ≤ 2099249152
     high i h =

@@ -3,11 +3,11 @@
 use Rattle.std.specs.Prelude.{◌≡◌, refl, List, [], ◌∷◌, ◌++◌, ℕ, suc, ◌+◌, ◌-◌, ◌<◌, ◌≤◌, length, take, drop, get_or, pos}
 use Rattle.std.proofs.Common.{sym, ap, ◌∙◌, subst, arith, add-one, length-drop, take-suc, get_or-drop, take-take, get_or-take, length-take-le}
 use Rattle.std.proofs.Math.Seq.{split_at}
-use Rattle.sheet.specs.Core.{shape_of, blocksIn, wiresIn, delayIn, fromIn, toIn, registersIn}
+use Rattle.sheet.specs.Core.{shape_of, blocks_in, wires_in, delay_in, from_in, to_in, registers_in}
 use Rattle.sheet.specs.Laws.Integer.{minus}
 use Rattle.sheet.specs.Reads.{BlockIs, WireIs}
-use Rattle.paths.specs.Path.{Joins, registersOn, end_of}
-use Rattle.paths.specs.Laws.Path.{passes-all, between-passes, joins-snoc, joins-end, joins-right, joins-start-lt, registers-snoc, delay-snoc}
+use Rattle.paths.specs.Path.{Joins, registers_on, end_of}
+use Rattle.paths.specs.Laws.Path.{passes_all, between_passes, joins_snoc, joins_end, joins_right, joins_start_lt, registers_snoc, delay_snoc}
 use Rattle.loops.specs.Link.{path}
 use Rattle.loops.specs.Reads.{PathHead, LinkGiven, StepIs, StepGiven, Followed, FollowGiven}
 use Rattle.loops.specs.Laws.Links.{not_good}
@@ -18,19 +18,19 @@ use Rattle.loops.specs.declared.path.Step.TheVariants as S
 
 -- ---- a step's answer once its case is known
 module _ (s : List ℕ) (here j : ℕ) where
-  pub step-read : (r : Step) (t w d : ℕ) → StepGiven s here j r → r ≡ S.To t w d → StepIs s here j t w d
-  step-read r t w d h e = subst (StepGiven s here j) e h
+  pub step_read : (r : Step) (t w d : ℕ) → StepGiven s here j r → r ≡ S.To t w d → StepIs s here j t w d
+  step_read r t w d h e = subst (StepGiven s here j) e h
 
-  pub step-refused : (r : Step) → StepGiven s here j r → r ≡ S.Refused → j < wiresIn s → fromIn s j ≡ here → ⊥
-  step-refused r h e = subst (StepGiven s here j) e h
+  pub step_refused : (r : Step) → StepGiven s here j r → r ≡ S.Refused → j < wires_in s → from_in s j ≡ here → ⊥
+  step_refused r h e = subst (StepGiven s here j) e h
 
-  pub step-good : (f t w d lo hi : ℕ) → j < wiresIn s → WireIs s j f t w → f ≡ here → BlockIs s t d lo hi → StepIs s here j t w d
-  step-good f t w d lo hi h i e b = record {
+  pub step_good : (f t w d lo hi : ℕ) → j < wires_in s → WireIs s j f t w → f ≡ here → BlockIs s t d lo hi → StepIs s here j t w d
+  step_good f t w d lo hi h i e b = record {
     wire = h;
     joins = sym i.from_is ∙ e;
     to_is = i.to_is;
-    registers-is = i.registers-is;
-    delay-is = b.delay-is;
+    registers_is = i.registers_is;
+    delay_is = b.delay_is;
     block = i.to_block;
     few = i.few;
     short = b.numbers.small;
@@ -38,36 +38,36 @@ module _ (s : List ℕ) (here j : ℕ) where
 
 -- ---- along the wires ws from block u
 module _ (s ws : List ℕ) (u : ℕ) where
-  pub follow-start : (d lo hi : ℕ) → u < blocksIn s → BlockIs s u d lo hi → Followed s ws u 0 u 0 d
-  follow-start d lo hi h b = record { joins = (h, refl); registers-is = refl; delay-is = b.delay-is; few = omega arith; short = omega (arith, b.numbers.small) }
+  pub follow_start : (d lo hi : ℕ) → u < blocks_in s → BlockIs s u d lo hi → Followed s ws u 0 u 0 d
+  follow_start d lo hi h b = record { joins = (h, refl); registers_is = refl; delay_is = b.delay_is; few = omega arith; short = omega (arith, b.numbers.small) }
 
   module _ (i here r d : ℕ) (f : Followed s ws u i here r d) where
-    pub follow-step : (j t w e : ℕ) → i < length ws → j ≡ get_or ws i 0 → StepIs s here j t w e → Followed s ws u (i + 1) t (r + w) (d + e)
-    follow-step j t w e h q g =
+    pub follow_step : (j t w e : ℕ) → i < length ws → j ≡ get_or ws i 0 → StepIs s here j t w e → Followed s ws u (i + 1) t (r + w) (d + e)
+    follow_step j t w e h q g =
         let k : take (i + 1) ws ≡ take i ws ++ (j ∷ []) = rw (add-one i, q) (take-suc ws i 0 h) in
-        let o : Joins (shape_of s) u (take i ws ++ (j ∷ [])) t = rw g.to_is (joins-snoc (shape_of s) u (take i ws) here j f.joins g.wire g.joins (omega (arith, g.to_is, g.block)) (between-passes (shape_of s) (take i ws) here (j ∷ []) (passes-all (shape_of s) here))) in
-        let x : e ≡ delayIn s (toIn s j) = g.delay-is ∙ ap (delayIn s) g.to_is in
+        let o : Joins (shape_of s) u (take i ws ++ (j ∷ [])) t = rw g.to_is (joins_snoc (shape_of s) u (take i ws) here j f.joins g.wire g.joins (omega (arith, g.to_is, g.block)) (between_passes (shape_of s) (take i ws) here (j ∷ []) (passes_all (shape_of s) here))) in
+        let x : e ≡ delay_in s (to_in s j) = g.delay_is ∙ ap (delay_in s) g.to_is in
         record {
           joins = rw k o;
-          registers-is = rw k (omega (arith, registers-snoc (registersIn s) (take i ws) j, f.registers-is, g.registers-is));
-          delay-is = rw k (omega (arith, delay-snoc (shape_of s) u (take i ws) j, f.delay-is));
+          registers_is = rw k (omega (arith, registers_snoc (registers_in s) (take i ws) j, f.registers_is, g.registers_is));
+          delay_is = rw k (omega (arith, delay_snoc (shape_of s) u (take i ws) j, f.delay_is));
           few = omega (arith, f.few, g.few);
           short = omega (arith, f.short, g.short);
         }
 
     -- the next wire does not lead on
-    pub follow-stuck : (count j : ℕ) → i < count → count ≤ length ws → j ≡ get_or ws i 0 → (j < wiresIn s → fromIn s j ≡ here → ⊥) → FollowGiven s ws u count S.Refused
-    follow-stuck count j h l q bad g =
+    pub follow_stuck : (count j : ℕ) → i < count → count ≤ length ws → j ≡ get_or ws i 0 → (j < wires_in s → from_in s j ≡ here → ⊥) → FollowGiven s ws u count S.Refused
+    follow_stuck count j h l q bad g =
         let xs = take count ws in
         let k : xs ≡ take i ws ++ get_or ws i 0 ∷ drop (suc i) xs = split_at xs i 0 (omega (arith, length-take-le count ws l)) ∙ rw (take-take i count ws (omega arith), get_or-take count ws i 0 h) refl in
-        let o = joins-right (shape_of s) u (take i ws) (get_or ws i 0 ∷ drop (suc i) xs) (end_of (shape_of s) u xs) (subst (λ (ys : List ℕ). Joins (shape_of s) u ys (end_of (shape_of s) u xs)) k g) in
-        bad (rw q o.1) (rw q (o.2 ∙ joins-end (shape_of s) u (take i ws) here f.joins))
+        let o = joins_right (shape_of s) u (take i ws) (get_or ws i 0 ∷ drop (suc i) xs) (end_of (shape_of s) u xs) (subst (λ (ys : List ℕ). Joins (shape_of s) u ys (end_of (shape_of s) u xs)) k g) in
+        bad (rw q o.1) (rw q (o.2 ∙ joins_end (shape_of s) u (take i ws) here f.joins))
 
-    pub follow-end : (count : ℕ) → i ≡ count → FollowGiven s ws u count (S.To here r d)
-    follow-end count e = rw e at f
+    pub follow_end : (count : ℕ) → i ≡ count → FollowGiven s ws u count (S.To here r d)
+    follow_end count e = rw e at f
 
-  pub start-out : (count : ℕ) → blocksIn s ≤ u → FollowGiven s ws u count S.Refused
-  start-out count h g = omega (arith, joins-start-lt (shape_of s) u (take count ws) (end_of (shape_of s) u (take count ws)) g)
+  pub start_out : (count : ℕ) → blocks_in s ≤ u → FollowGiven s ws u count S.Refused
+  start_out count h g = omega (arith, joins_start_lt (shape_of s) u (take count ws) (end_of (shape_of s) u (take count ws)) g)
 
   pub followed : (count : ℕ) (r : Step) (end w d : ℕ) → FollowGiven s ws u count r → r ≡ S.To end w d → Followed s ws u count end w d
   followed count r end w d f e = subst (FollowGiven s ws u count) e f
@@ -77,40 +77,40 @@ module _ (s words : List ℕ) (from u count : ℕ) (h : from + count ≤ length 
   abbrev wires : List ℕ
   wires = drop from words
 
-  wires-there : count ≤ length wires
-  wires-there = omega (arith, length-drop from words)
+  wires_there : count ≤ length wires
+  wires_there = omega (arith, length-drop from words)
 
   module _ (i here r d j : ℕ) (f : Followed s wires u i here r d) (k : i < count) (q : j ≡ get_or words (from + i) 0) where
-    pub words-stuck : (j < wiresIn s → fromIn s j ≡ here → ⊥) → FollowGiven s wires u count S.Refused
-    words-stuck bad = follow-stuck s wires u i here r d f count j k wires-there (q ∙ sym (get_or-drop from words i 0)) bad
+    pub words_stuck : (j < wires_in s → from_in s j ≡ here → ⊥) → FollowGiven s wires u count S.Refused
+    words_stuck bad = follow_stuck s wires u i here r d f count j k wires_there (q ∙ sym (get_or-drop from words i 0)) bad
 
     pub words_step : (t w e : ℕ) → StepIs s here j t w e → Followed s wires u (i + 1) t (r + w) (d + e)
-    words_step t w e g = follow-step s wires u i here r d f j t w e (omega (arith, wires-there)) (q ∙ sym (get_or-drop from words i 0)) g
+    words_step t w e g = follow_step s wires u i here r d f j t w e (omega (arith, wires_there)) (q ∙ sym (get_or-drop from words i 0)) g
 
 -- ---- the link, where the words say that it is a path
 module _ (s : List ℕ) (p : ℕ) (words : List ℕ) (at u count : ℕ) (h : PathHead words at u count) where
   abbrev along : List ℕ
   along = drop (at + 3) words
 
-  pub path-stuck : (r : Step) → FollowGiven s along u count r → r ≡ S.Refused → LinkGiven s p words at R.Refused
-  path-stuck r f e =
+  pub path_stuck : (r : Step) → FollowGiven s along u count r → r ≡ S.Refused → LinkGiven s p words at R.Refused
+  path_stuck r f e =
       not_good s p words at (at + 3 + count) (path u (take count along)) h (λ g. subst (FollowGiven s along u count) e f g.0)
 
   module _ (end w d : ℕ) (f : Followed s along u count end w d) where
-    pub path-quick : d ≤ p → LinkGiven s p words at R.Refused
-    path-quick k =
-        not_good s p words at (at + 3 + count) (path u (take count along)) h (λ g. omega (arith, g.1, f.delay-is))
+    pub path_quick : d ≤ p → LinkGiven s p words at R.Refused
+    path_quick k =
+        not_good s p words at (at + 3 + count) (path u (take count along)) h (λ g. omega (arith, g.1, f.delay_is))
 
-    pub path-good : p < d → LinkGiven s p words at (R.Good (record { link = L.Path u count; a = u; b = end; k = w + 32767; next = at + 3 + count }))
-    path-good k =
-        let q = joins-end (shape_of s) u (take count along) end f.joins in
+    pub path_good : p < d → LinkGiven s p words at (R.Good (record { link = L.Path u count; a = u; b = end; k = w + 32767; next = at + 3 + count }))
+    path_good k =
+        let q = joins_end (shape_of s) u (take count along) end f.joins in
         record {
           head = h;
           link = path u (take count along);
           spelt = h;
-          good = (rw q f.joins, omega (arith, f.delay-is));
-          a-is = refl;
-          b-is = sym q;
-          k-is = omega (arith, f.registers-is, minus (pos (registersOn (registersIn s) (take count along))) (pos 1));
+          good = (rw q f.joins, omega (arith, f.delay_is));
+          a_is = refl;
+          b_is = sym q;
+          k_is = omega (arith, f.registers_is, minus (pos (registers_on (registers_in s) (take count along))) (pos 1));
           small = omega (arith, f.few);
         }

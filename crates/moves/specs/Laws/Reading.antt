@@ -4,81 +4,81 @@ use Rattle.std.specs.Prelude.{◌≡◌, List, ℕ, ◌+◌, ◌-◌, ◌<◌, �
 use Rattle.std.proofs.Common.{ap, ◌∙◌, arith, inl, inr}
 use Rattle.std.specs.Int.Signed.{mag}
 use Rattle.sheet.specs.Lag.{excess}
-use Rattle.sheet.specs.Core.{core_of, blocksIn, wiresIn, lowerIn, upperIn, fromIn, toIn, registersIn}
+use Rattle.sheet.specs.Core.{core_of, blocks_in, wires_in, lower_in, upper_in, from_in, to_in, registers_in}
 use Rattle.sheet.specs.Sheet.{BlockGood}
 use Rattle.sheet.specs.Reads.{ExcessIs, BlockIs, WireIs}
-use Rattle.sheet.specs.Laws.Lag.{order, moved-low, moved-high}
-use Rattle.sheet.specs.Laws.Sheet.{lower-fits, upper_fits}
+use Rattle.sheet.specs.Laws.Lag.{order, moved_low, moved_high}
+use Rattle.sheet.specs.Laws.Sheet.{lower_fits, upper_fits}
 use Rattle.sheet.specs.Rules.{First, None, FirstOf, answer}
 use Rattle.sheet.specs.Laws.Rules.{place_found, place_none}
-use Rattle.moves.specs.Move.{lagRules}
+use Rattle.moves.specs.Move.{lag_rules}
 use Rattle.moves.specs.Lags.{InRange, Fits}
 
 -- ---- one block: its lag's excess number e against its limits
 module _ (s : List ℕ) (r : ℕ → ℤ) (b d lo up e : ℕ) (i : BlockIs s b d lo up) (g : BlockGood s b) (x : ExcessIs (r b) e) where
-  low : lowerIn s b ≤ℤ r b → lo ≤ e
-  low h = omega (arith, (order (lowerIn s b) (r b) (lower-fits _ _ _ _ g) x.fits).0 h, i.lower-is, x.is)
+  low : lower_in s b ≤ℤ r b → lo ≤ e
+  low h = omega (arith, (order (lower_in s b) (r b) (lower_fits _ _ _ _ g) x.fits).0 h, i.lower_is, x.is)
 
-  high : r b ≤ℤ upperIn s b → e ≤ up
-  high h = omega (arith, (order (r b) (upperIn s b) x.fits (upper_fits _ _ _ _ g)).0 h, i.upper_is, x.is)
+  high : r b ≤ℤ upper_in s b → e ≤ up
+  high h = omega (arith, (order (r b) (upper_in s b) x.fits (upper_fits _ _ _ _ g)).0 h, i.upper_is, x.is)
 
-  pub below-range : e < lo → InRange (core_of s) r b → ⊥
-  below-range h k = omega (arith, low k.0)
+  pub below_range : e < lo → InRange (core_of s) r b → ⊥
+  below_range h k = omega (arith, low k.0)
 
-  pub above-range : up < e → InRange (core_of s) r b → ⊥
-  above-range h k = omega (arith, high k.1)
+  pub above_range : up < e → InRange (core_of s) r b → ⊥
+  above_range h k = omega (arith, high k.1)
 
-  pub within-range : lo ≤ e → e ≤ up → InRange (core_of s) r b
-  within-range h k = (
-    (order (lowerIn s b) (r b) (lower-fits _ _ _ _ g) x.fits).1 (omega (arith, i.lower-is, x.is)),
-    (order (r b) (upperIn s b) x.fits (upper_fits _ _ _ _ g)).1 (omega (arith, i.upper_is, x.is)),
+  pub within_range : lo ≤ e → e ≤ up → InRange (core_of s) r b
+  within_range h k = (
+    (order (lower_in s b) (r b) (lower_fits _ _ _ _ g) x.fits).1 (omega (arith, i.lower_is, x.is)),
+    (order (r b) (upper_in s b) x.fits (upper_fits _ _ _ _ g)).1 (omega (arith, i.upper_is, x.is)),
   )
 
 -- ---- one wire: the excess numbers a and b of the lags at its two ends
 module _ (s : List ℕ) (r : ℕ → ℤ) (j f t w a b : ℕ) (i : WireIs s j f t w) (x : ExcessIs (r f) a) (y : ExcessIs (r t) b) where
-  x-is : a ≡ excess (r (fromIn s j))
-  x-is = x.is ∙ ap (λ (k : ℕ). excess (r k)) i.from_is
+  x_is : a ≡ excess (r (from_in s j))
+  x_is = x.is ∙ ap (λ (k : ℕ). excess (r k)) i.from_is
 
-  y-is : b ≡ excess (r (toIn s j))
-  y-is = y.is ∙ ap (λ (k : ℕ). excess (r k)) i.to_is
+  y_is : b ≡ excess (r (to_in s j))
+  y_is = y.is ∙ ap (λ (k : ℕ). excess (r k)) i.to_is
 
-  x_fits : mag (r (fromIn s j)) < 32768
+  x_fits : mag (r (from_in s j)) < 32768
   x_fits = rw i.from_is at x.fits
 
-  y-fits : mag (r (toIn s j)) < 32768
-  y-fits = rw i.to_is at y.fits
+  y_fits : mag (r (to_in s j)) < 32768
+  y_fits = rw i.to_is at y.fits
 
   pub too_few : w + b < a → Fits (core_of s) r j → ⊥
   too_few h k =
-      omega (arith, (moved-low (r (fromIn s j)) (r (toIn s j)) x_fits y-fits (registersIn s j)).0 k.0, i.registers-is, x-is, y-is)
+      omega (arith, (moved_low (r (from_in s j)) (r (to_in s j)) x_fits y_fits (registers_in s j)).0 k.0, i.registers_is, x_is, y_is)
 
   pub too_many : a + 2000 < w + b → Fits (core_of s) r j → ⊥
   too_many h k =
-      omega (arith, (moved-high (r (fromIn s j)) (r (toIn s j)) x_fits y-fits (registersIn s j) 2000).0 k.1, i.registers-is, x-is, y-is)
+      omega (arith, (moved_high (r (from_in s j)) (r (to_in s j)) x_fits y_fits (registers_in s j) 2000).0 k.1, i.registers_is, x_is, y_is)
 
-  pub just-right : a ≤ w + b → w + b ≤ a + 2000 → Fits (core_of s) r j
-  just-right h k = (
-    (moved-low (r (fromIn s j)) (r (toIn s j)) x_fits y-fits (registersIn s j)).1 (omega (arith, i.registers-is, x-is, y-is)),
-    (moved-high (r (fromIn s j)) (r (toIn s j)) x_fits y-fits (registersIn s j) 2000).1 (omega (arith, i.registers-is, x-is, y-is)),
+  pub just_right : a ≤ w + b → w + b ≤ a + 2000 → Fits (core_of s) r j
+  just_right h k = (
+    (moved_low (r (from_in s j)) (r (to_in s j)) x_fits y_fits (registers_in s j)).1 (omega (arith, i.registers_is, x_is, y_is)),
+    (moved_high (r (from_in s j)) (r (to_in s j)) x_fits y_fits (registers_in s j) 2000).1 (omega (arith, i.registers_is, x_is, y_is)),
   )
 
 -- ---- refusals 8 and 9, from where the searches ended
-module _ (s : List ℕ) (r : ℕ → ℤ) (n b : ℕ) (e : n ≡ blocksIn s) (f : FirstOf (λ k. InRange (core_of s) r k → ⊥) n b) where
-  ranges-searched : FirstOf (λ k. InRange (core_of s) r k → ⊥) (blocksIn s) b
-  ranges-searched = rw e at f
+module _ (s : List ℕ) (r : ℕ → ℤ) (n b : ℕ) (e : n ≡ blocks_in s) (f : FirstOf (λ k. InRange (core_of s) r k → ⊥) n b) where
+  ranges_searched : FirstOf (λ k. InRange (core_of s) r k → ⊥) (blocks_in s) b
+  ranges_searched = rw e at f
 
-  pub lag-out : b < n → First (lagRules s r) (answer 8 b 0)
-  lag-out h = inl (place_found (λ k. InRange (core_of s) r k → ⊥) (blocksIn s) (λ k. answer 8 k 0) b ranges-searched (omega arith))
+  pub lag_out : b < n → First (lag_rules s r) (answer 8 b 0)
+  lag_out h = inl (place_found (λ k. InRange (core_of s) r k → ⊥) (blocks_in s) (λ k. answer 8 k 0) b ranges_searched (omega arith))
 
-  lags-in : n ≤ b → (k : ℕ) × (k < blocksIn s) × (InRange (core_of s) r k → ⊥) → ⊥
-  lags-in h = place_none (λ k. InRange (core_of s) r k → ⊥) (blocksIn s) (λ k. answer 8 k 0) b ranges-searched (omega arith)
+  lags_in_lem : n ≤ b → (k : ℕ) × (k < blocks_in s) × (InRange (core_of s) r k → ⊥) → ⊥
+  lags_in_lem h = place_none (λ k. InRange (core_of s) r k → ⊥) (blocks_in s) (λ k. answer 8 k 0) b ranges_searched (omega arith)
 
-  module _ (m j : ℕ) (g : m ≡ wiresIn s) (w : FirstOf (λ k. Fits (core_of s) r k → ⊥) m j) (h : n ≤ b) where
-    fits-searched : FirstOf (λ k. Fits (core_of s) r k → ⊥) (wiresIn s) j
-    fits-searched = rw g at w
+  module _ (m j : ℕ) (g : m ≡ wires_in s) (w : FirstOf (λ k. Fits (core_of s) r k → ⊥) m j) (h : n ≤ b) where
+    fits_searched : FirstOf (λ k. Fits (core_of s) r k → ⊥) (wires_in s) j
+    fits_searched = rw g at w
 
-    pub wire-out : j < m → First (lagRules s r) (answer 9 j 0)
-    wire-out k = inr (lags-in h, inl (place_found (λ i. Fits (core_of s) r i → ⊥) (wiresIn s) (λ i. answer 9 i 0) j fits-searched (omega arith)))
+    pub wire_out : j < m → First (lag_rules s r) (answer 9 j 0)
+    wire_out k = inr (lags_in_lem h, inl (place_found (λ i. Fits (core_of s) r i → ⊥) (wires_in s) (λ i. answer 9 i 0) j fits_searched (omega arith)))
 
-    pub lags-permitted : m ≤ j → None (lagRules s r)
-    lags-permitted k = (lags-in h, (place_none (λ i. Fits (core_of s) r i → ⊥) (wiresIn s) (λ i. answer 9 i 0) j fits-searched (omega arith), tt))
+    pub lags_permitted : m ≤ j → None (lag_rules s r)
+    lags_permitted k = (lags_in_lem h, (place_none (λ i. Fits (core_of s) r i → ⊥) (wires_in s) (λ i. answer 9 i 0) j fits_searched (omega arith), tt))

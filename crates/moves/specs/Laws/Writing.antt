@@ -7,97 +7,97 @@ use Prim.Native.Nat.{ℕ, zero, suc, ◌+◌, ◌*◌, ◌-◌, ◌%◌, ◌<◌
 use Rattle.std.proofs.Math.Numerals.{add-one}
 use Rattle.sheet.specs.Lag.{excess}
 use Rattle.sheet.specs.Bytes.{put16}
-use Rattle.sheet.specs.Core.{core_of, blocksIn, wiresIn, lowerIn, upperIn, fromIn, toIn, registersIn}
+use Rattle.sheet.specs.Core.{core_of, blocks_in, wires_in, lower_in, upper_in, from_in, to_in, registers_in}
 use Rattle.sheet.specs.Sheet.{FormedSheet}
 use Rattle.sheet.specs.Reads.{ExcessIs, BlockIs, WireIs}
-use Rattle.sheet.specs.Laws.Lag.{order, moved-low, moved-high}
-use Rattle.sheet.specs.Laws.Bytes.{length-put16}
-use Rattle.sheet.specs.Laws.Sheet.{block-numbers, lower-fits, upper_fits}
+use Rattle.sheet.specs.Laws.Lag.{order, moved_low, moved_high}
+use Rattle.sheet.specs.Laws.Bytes.{length_put16}
+use Rattle.sheet.specs.Laws.Sheet.{block_numbers, lower_fits, upper_fits}
 use Rattle.moves.specs.Lags.{Permitted}
-use Rattle.moves.specs.Write.{puts, limitBits, movedRegisters, limitsFrom, registersFrom, copied, written, LimitRead, RegistersMoved}
+use Rattle.moves.specs.Write.{puts, limit_bits, moved_registers, limits_from, registers_from, copied, written, LimitRead, RegistersMoved}
 
 module _ (base : ℕ) (val : ℕ → ℕ) where
   pub puts_none : (l : List ℕ) → puts base val 0 l ≡ l
   unfolding puts
   puts_none l = refl
 
-  pub puts-turn : (b : ℕ) (l₀ l l' : List ℕ) (at x : ℕ) → l ≡ puts base val b l₀ → at ≡ base + 8 * b → x ≡ val b → l' ≡ put16 l at x → l' ≡ puts base val (b + 1) l₀
+  pub puts_turn : (b : ℕ) (l₀ l l' : List ℕ) (at x : ℕ) → l ≡ puts base val b l₀ → at ≡ base + 8 * b → x ≡ val b → l' ≡ put16 l at x → l' ≡ puts base val (b + 1) l₀
   unfolding puts
-  puts-turn b l₀ l l' at x p a q e = e ∙ rw (p, a, q, add-one b)
+  puts_turn b l₀ l l' at x p a q e = e ∙ rw (p, a, q, add-one b)
 
-  pub puts-done : (b n : ℕ) (l₀ l : List ℕ) → l ≡ puts base val b l₀ → b ≤ n → n ≤ b → l ≡ puts base val n l₀
-  puts-done b n l₀ l p h k = p ∙ ap (λ (i : ℕ). puts base val i l₀) (omega arith)
+  pub puts_done : (b n : ℕ) (l₀ l : List ℕ) → l ≡ puts base val b l₀ → b ≤ n → n ≤ b → l ≡ puts base val n l₀
+  puts_done b n l₀ l p h k = p ∙ ap (λ (i : ℕ). puts base val i l₀) (omega arith)
 
-  pub length-puts : (n : ℕ) (l : List ℕ) → length (puts base val n l) ≡ length l
+  pub length_puts : (n : ℕ) (l : List ℕ) → length (puts base val n l) ≡ length l
   unfolding puts
-  length-puts zero l = refl
-  length-puts (suc n) l = length-put16 (puts base val n l) (base + 8 * n) (val n) ∙ length-puts n l
+  length_puts zero l = refl
+  length_puts (suc n) l = length_put16 (puts base val n l) (base + 8 * n) (val n) ∙ length_puts n l
 
 pub bits_is : (e a E A : ℕ) → e ≡ E → a ≡ A → (e + 32768 - a + 32768) % 65536 ≡ (E + 32768 - A + 32768) % 65536
 bits_is e a E A p q = rw (p, q)
 
 -- the four steps together
-pub written-made : (s : List ℕ) (r : ℕ → ℤ) (l : List ℕ) (n m : ℕ) (l₁ l₂ l₃ l₄ : List ℕ) → n ≡ blocksIn s → m ≡ wiresIn s → l₁ ≡ copied s l
-    → l₂ ≡ puts (limitsFrom false) (limitBits s r false) n l₁ → l₃ ≡ puts (limitsFrom true) (limitBits s r true) n l₂
-    → l₄ ≡ puts (registersFrom n) (movedRegisters s r) m l₃ → l₄ ≡ written s r l
-written-made s r l n m l₁ l₂ l₃ l₄ p q a b c d = d ∙ rw (c, b, a, p, q)
+pub written_made : (s : List ℕ) (r : ℕ → ℤ) (l : List ℕ) (n m : ℕ) (l₁ l₂ l₃ l₄ : List ℕ) → n ≡ blocks_in s → m ≡ wires_in s → l₁ ≡ copied s l
+    → l₂ ≡ puts (limits_from false) (limit_bits s r false) n l₁ → l₃ ≡ puts (limits_from true) (limit_bits s r true) n l₂
+    → l₄ ≡ puts (registers_from n) (moved_registers s r) m l₃ → l₄ ≡ written s r l
+written_made s r l n m l₁ l₂ l₃ l₄ p q a b c d = d ∙ rw (c, b, a, p, q)
 
 module _ (s : List ℕ) (f : FormedSheet s) where
   -- ---- a limit as it is read
   module _ (b d lo up : ℕ) (i : BlockIs s b d lo up) where
-    pub upper-read : LimitRead s true b up
-    upper-read = record { is = i.upper_is; low = omega (arith, i.numbers.lowest, i.numbers.ordered); high = i.numbers.highest }
+    pub upper_read : LimitRead s true b up
+    upper_read = record { is = i.upper_is; low = omega (arith, i.numbers.lowest, i.numbers.ordered); high = i.numbers.highest }
 
-    pub lower-read : LimitRead s false b lo
-    lower-read = record { is = i.lower-is; low = i.numbers.lowest; high = omega (arith, i.numbers.ordered, i.numbers.highest) }
+    pub lower_read : LimitRead s false b lo
+    lower_read = record { is = i.lower_is; low = i.numbers.lowest; high = omega (arith, i.numbers.ordered, i.numbers.highest) }
 
   module _ (r : ℕ → ℤ) (p : Permitted (core_of s) r) where
     -- ---- a permitted lag is small
-    module _ (b e : ℕ) (h : b < blocksIn s) (x : ExcessIs (r b) e) where
-      pub lag-low : 31768 ≤ e
-      lag-low =
+    module _ (b e : ℕ) (h : b < blocks_in s) (x : ExcessIs (r b) e) where
+      pub lag_low : 31768 ≤ e
+      lag_low =
           omega (
             arith,
-            (order (lowerIn s b) (r b) (lower-fits _ _ _ _ (f.block b h)) x.fits).0 (p.in-range b h).0,
-            (block-numbers _ _ _ _ (f.block b h)).lowest,
+            (order (lower_in s b) (r b) (lower_fits _ _ _ _ (f.block b h)) x.fits).0 (p.in_range b h).0,
+            (block_numbers _ _ _ _ (f.block b h)).lowest,
             x.is,
           )
 
-      pub lag-high : e ≤ 33768
-      lag-high =
+      pub lag_high : e ≤ 33768
+      lag_high =
           omega (
             arith,
-            (order (r b) (upperIn s b) x.fits (upper_fits _ _ _ _ (f.block b h))).0 (p.in-range b h).1,
-            (block-numbers _ _ _ _ (f.block b h)).highest,
+            (order (r b) (upper_in s b) x.fits (upper_fits _ _ _ _ (f.block b h))).0 (p.in_range b h).1,
+            (block_numbers _ _ _ _ (f.block b h)).highest,
             x.is,
           )
 
     -- ---- a wire's registers once moved
-    module _ (j fr t w a b : ℕ) (h : j < wiresIn s) (i : WireIs s j fr t w) (x : ExcessIs (r fr) a) (y : ExcessIs (r t) b) where
-      a-is : a ≡ excess (r (fromIn s j))
-      a-is = x.is ∙ ap (λ (k : ℕ). excess (r k)) i.from_is
+    module _ (j fr t w a b : ℕ) (h : j < wires_in s) (i : WireIs s j fr t w) (x : ExcessIs (r fr) a) (y : ExcessIs (r t) b) where
+      a_is : a ≡ excess (r (from_in s j))
+      a_is = x.is ∙ ap (λ (k : ℕ). excess (r k)) i.from_is
 
-      b-is : b ≡ excess (r (toIn s j))
-      b-is = y.is ∙ ap (λ (k : ℕ). excess (r k)) i.to_is
+      b_is : b ≡ excess (r (to_in s j))
+      b_is = y.is ∙ ap (λ (k : ℕ). excess (r k)) i.to_is
 
       pub enough : a ≤ w + b
       enough =
           omega (
             arith,
-            (moved-low (r (fromIn s j)) (r (toIn s j)) (rw i.from_is at x.fits) (rw i.to_is at y.fits) (registersIn s j)).0 (p.fits j h).0,
-            i.registers-is,
-            a-is,
-            b-is,
+            (moved_low (r (from_in s j)) (r (to_in s j)) (rw i.from_is at x.fits) (rw i.to_is at y.fits) (registers_in s j)).0 (p.fits j h).0,
+            i.registers_is,
+            a_is,
+            b_is,
           )
 
-      pub registers-moved : RegistersMoved s r j (w + b - a)
-      registers-moved = record {
-        is = omega (arith, i.registers-is, a-is, b-is);
+      pub registers_moved : RegistersMoved s r j (w + b - a)
+      registers_moved = record {
+        is = omega (arith, i.registers_is, a_is, b_is);
         few = omega (
           arith,
-          (moved-high (r (fromIn s j)) (r (toIn s j)) (rw i.from_is at x.fits) (rw i.to_is at y.fits) (registersIn s j) 2000).0 (p.fits j h).1,
-          i.registers-is,
-          a-is,
-          b-is,
+          (moved_high (r (from_in s j)) (r (to_in s j)) (rw i.from_is at x.fits) (rw i.to_is at y.fits) (registers_in s j) 2000).0 (p.fits j h).1,
+          i.registers_is,
+          a_is,
+          b_is,
         );
       }

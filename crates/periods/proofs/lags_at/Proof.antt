@@ -1,7 +1,7 @@
 -- The header's refusals come first.
-use Rattle.sheet.specs.Laws.Sheet.{frame-read, frame_refused}
-use Rattle.promises.specs.Questions.{lagsLast}
-use Rattle.promises.specs.Laws.Asked.{asked-refused, asked-rest}
+use Rattle.sheet.specs.Laws.Sheet.{frame_read, frame_refused}
+use Rattle.promises.specs.Questions.{lags_last}
+use Rattle.promises.specs.Laws.Asked.{asked_refused, asked_rest}
 use borrow.Author.Rules.{rules}
 use Rattle.periods.proofs.lags_at.Statement.{statement}
 use Rattle.periods.proofs.lags_at.Tie as tie
@@ -16,11 +16,11 @@ enum-known-n : tie.Need-enum-known-n
 enum-known-n c = search rules
 
 asked-framed-requires : tie.Need-asked-framed-requires
-asked-framed-requires c κs = let f = frame-read c.before.before.before.before.before.before.before.before.args.sheet.now c.before.before.before.before.before.read-frame.result _ _ c.before.before.before.before.before.read-frame.ensures c.before.before.before.n.given.1 in
+asked-framed-requires c κs = let f = frame_read c.before.before.before.before.before.before.before.before.args.sheet.now c.before.before.before.before.before.read-frame.result _ _ c.before.before.before.before.before.read-frame.ensures c.before.before.before.n.given.1 in
     (f.2, f.0, f.1)
 
 returns : tie.Need-returns
-returns c = asked-refused c.before.before.before.before.before.before.args.sheet.now c.before.before.before.before.before.before.args.lags.now c.before.before.before.before.before.before.args.words.now (lagsLast c.before.before.before.before.before.before.args.sheet.now c.before.before.before.before.before.before.args.c c.before.before.before.before.before.before.args.lags.now c.before.before.before.before.before.before.args.words.now) _ (frame_refused c.before.before.before.before.before.before.args.sheet.now c.before.before.before.read-frame.result _ c.before.before.before.read-frame.ensures c.before.a.given.1)
+returns c = asked_refused c.before.before.before.before.before.before.args.sheet.now c.before.before.before.before.before.before.args.lags.now c.before.before.before.before.before.before.args.words.now (lags_last c.before.before.before.before.before.before.args.sheet.now c.before.before.before.before.before.before.args.c c.before.before.before.before.before.before.args.lags.now c.before.before.before.before.before.before.args.words.now) _ (frame_refused c.before.before.before.before.before.before.args.sheet.now c.before.before.before.read-frame.result _ c.before.before.before.read-frame.ensures c.before.a.given.1)
 
 same_length : tie.Need-same-length
 same_length c = search rules
@@ -29,7 +29,7 @@ same-length-2 : tie.Need-same-length-2
 same-length-2 c = search rules
 
 returns-2 : tie.Need-returns-2
-returns-2 c = asked-rest c.before.before.before.before.before.before.before.before.before.before.before.before.args.sheet.now c.before.before.before.before.before.before.before.before.before.before.before.before.args.lags.now c.before.before.before.before.before.before.before.before.before.before.before.before.args.words.now (lagsLast c.before.before.before.before.before.before.before.before.before.before.before.before.args.sheet.now c.before.before.before.before.before.before.before.before.before.before.before.before.args.c c.before.before.before.before.before.before.before.before.before.before.before.before.args.lags.now c.before.before.before.before.before.before.before.before.before.before.before.before.args.words.now) _ (frame-read c.before.before.before.before.before.before.before.before.before.before.before.before.args.sheet.now c.before.before.before.before.before.before.before.before.before.read-frame.result _ _ c.before.before.before.before.before.before.before.before.before.read-frame.ensures c.before.before.before.before.before.before.before.n.given.1).2 c.before.before.before.asked-framed.ensures
+returns-2 c = asked_rest c.before.before.before.before.before.before.before.before.before.before.before.before.args.sheet.now c.before.before.before.before.before.before.before.before.before.before.before.before.args.lags.now c.before.before.before.before.before.before.before.before.before.before.before.before.args.words.now (lags_last c.before.before.before.before.before.before.before.before.before.before.before.before.args.sheet.now c.before.before.before.before.before.before.before.before.before.before.before.before.args.c c.before.before.before.before.before.before.before.before.before.before.before.before.args.lags.now c.before.before.before.before.before.before.before.before.before.before.before.before.args.words.now) _ (frame_read c.before.before.before.before.before.before.before.before.before.before.before.before.args.sheet.now c.before.before.before.before.before.before.before.before.before.read-frame.result _ _ c.before.before.before.before.before.before.before.before.before.read-frame.ensures c.before.before.before.before.before.before.before.n.given.1).2 c.before.before.before.asked-framed.ensures
 
 pub lags-at-spec : {M : Type 1} → statement M
 lags-at-spec =

@@ -1,6 +1,6 @@
 -- The header's refusals come first.
-use Rattle.sheet.specs.Laws.Sheet.{frame-read, frame_refused}
-use Rattle.promises.specs.Laws.Period.{period-refused}
+use Rattle.sheet.specs.Laws.Sheet.{frame_read, frame_refused}
+use Rattle.promises.specs.Laws.Period.{period_refused}
 use borrow.Author.Rules.{rules}
 use Rattle.periods.proofs.period.Statement.{statement}
 use Rattle.periods.proofs.period.Tie as tie
@@ -15,11 +15,11 @@ enum-known-n : tie.Need-enum-known-n
 enum-known-n c = search rules
 
 period-framed-requires : tie.Need-period-framed-requires
-period-framed-requires c κs = let f = frame-read c.before.before.before.before.before.args.sheet.now c.before.before.before.read-frame.result _ _ c.before.before.before.read-frame.ensures c.before.n.given.1 in
+period-framed-requires c κs = let f = frame_read c.before.before.before.before.before.args.sheet.now c.before.before.before.read-frame.result _ _ c.before.before.before.read-frame.ensures c.before.n.given.1 in
     (f.2, f.0, f.1)
 
 returns : tie.Need-returns
-returns c = period-refused c.before.before.before.before.before.args.sheet.now _ (frame_refused c.before.before.before.before.before.args.sheet.now c.before.before.before.read-frame.result _ c.before.before.before.read-frame.ensures c.before.a.given.1)
+returns c = period_refused c.before.before.before.before.before.args.sheet.now _ (frame_refused c.before.before.before.before.before.args.sheet.now c.before.before.before.read-frame.result _ c.before.before.before.read-frame.ensures c.before.a.given.1)
 
 returns-2 : tie.Need-returns-2
 returns-2 c = c.period-framed.ensures

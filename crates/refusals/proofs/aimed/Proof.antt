@@ -1,7 +1,7 @@
 -- Lags at a period go on from the largest permitted lags; the least period never comes here.
 use mathlib.Core.Path.{subst}
 use Rattle.refusals.specs.Solving.{Hopeless}
-use Rattle.refusals.specs.Laws.Solving.{hopeless-rest}
+use Rattle.refusals.specs.Laws.Solving.{hopeless_rest}
 use borrow.Author.Rules.{rules}
 use Rattle.refusals.proofs.aimed.Statement.{statement}
 use Rattle.refusals.proofs.aimed.Tie as tie
@@ -30,7 +30,7 @@ returns c = rw c.before.before.before.before.before.before.before.before.before.
 
 returns-2 : tie.Need-returns-2
 returns-2 c = let p = c.before.before.before.before.before.requires in
-    absurd (hopeless-rest (subst (Hopeless _) c.before.enum_told.given.1 p.0.3) p.1)
+    absurd (hopeless_rest (subst (Hopeless _) c.before.enum_told.given.1 p.0.3) p.1)
 
 pub aimed-spec : {M : Type 1} → statement M
 aimed-spec =

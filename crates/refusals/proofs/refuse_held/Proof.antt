@@ -1,5 +1,5 @@
 -- Permitted lags first, then those that meet the period.
-use Rattle.refusals.specs.Laws.Solving.{first-refuses, first-rests, solved-rests}
+use Rattle.refusals.specs.Laws.Solving.{first_refuses, first_rests, solved_rests}
 use borrow.Author.Rules.{rules}
 use Rattle.refusals.proofs.refuse_held.Statement.{statement}
 use Rattle.refusals.proofs.refuse_held.Tie as tie
@@ -16,14 +16,14 @@ same_length c = search rules
 
 returns : tie.Need-returns
 returns c = let p = c.before.before.before.before.before.before.before.before.before.before.before.before.before.before.before.before.before.before.before.requires in
-    first-refuses c.before.before.before.before.before.before.before.before.before.before.before.before.before.before.before.before.before.before.before.args.lags.now _ c.before.a.given.1 c.before.before.before.before.before.before.before.before.before.before.before.before.before.before.before.before.before.before.before.args.aim p.0.0 c.before.before.before.before.before.permit.ensures
+    first_refuses c.before.before.before.before.before.before.before.before.before.before.before.before.before.before.before.before.before.before.before.args.lags.now _ c.before.a.given.1 c.before.before.before.before.before.before.before.before.before.before.before.before.before.before.before.before.before.before.before.args.aim p.0.0 c.before.before.before.before.before.permit.ensures
 
 enum_told : tie.Need-enum-told
 enum_told c = search rules
 
 aimed-requires : tie.Need-aimed-requires
 aimed-requires c κs = let p = c.before.before.before.before.before.before.before.before.before.before.before.before.before.before.before.before.before.before.before.before.before.before.before.before.before.before.before.before.before.before.requires.1 in
-    let R = first-rests c.before.before.before.before.before.before.before.before.before.before.before.before.before.before.before.before.permit.ensures c.before.before.before.before.before.before.before.before.before.before.before.before.enum_told.given.1 _ p.4 p.5 in
+    let R = first_rests c.before.before.before.before.before.before.before.before.before.before.before.before.before.before.before.before.permit.ensures c.before.before.before.before.before.before.before.before.before.before.before.before.enum_told.given.1 _ p.4 p.5 in
     ((p.3, R.0.0, R.0.1, p.6), R.1)
 
 same-length-2 : tie.Need-same-length-2
@@ -33,7 +33,7 @@ same-length-3 : tie.Need-same-length-3
 same-length-3 c = search rules
 
 returns-2 : tie.Need-returns-2
-returns-2 c = rw (solved-rests c.before.before.before.before.before.before.before.before.before.before.before.before.before.before.before.before.before.before.before.before.permit.ensures c.before.before.before.before.before.before.before.before.before.before.before.before.before.before.before.before.enum_told.given.1).1 at c.before.before.before.aimed.ensures
+returns-2 c = rw (solved_rests c.before.before.before.before.before.before.before.before.before.before.before.before.before.before.before.before.before.before.before.before.permit.ensures c.before.before.before.before.before.before.before.before.before.before.before.before.before.before.before.before.enum_told.given.1).1 at c.before.before.before.aimed.ensures
 
 pub refuse-held-spec : {M : Type 1} → statement M
 refuse-held-spec =

@@ -1,7 +1,7 @@
 -- The solver rests, or the loop is written from where it stopped.
 use native.Mathlib.Omega.{arith}
 use mathlib.Core.Path.{refl}
-use Rattle.refusals.specs.Laws.Solving.{rests, halts, loop-written, few_words}
+use Rattle.refusals.specs.Laws.Solving.{rests, halts, loop_written, few_words}
 use borrow.Author.Rules.{rules}
 use Rattle.refusals.proofs.solve.Statement.{statement}
 use Rattle.refusals.proofs.solve.Tie as tie
@@ -22,13 +22,13 @@ write-loop-requires : tie.Need-write-loop-requires
 write-loop-requires c κs = (c.before.before.before.before.before.before.before.before.before.before.before.before.requires.0, (c.before.before.before.before.before.before.before.before.before.before.before.before.requires.1.g, _, halts c.before.before.before.before.before.before.before.before.before.before.before.before.requires.1 _ _ _ c.before.before.before.before.before.before.settle.result c.before.before.before.before.before.before.settle.ensures _ _ _ c.before.before.before.before.end.given.1))
 
 counted-requires : tie.Need-counted-requires
-counted-requires c κs = omega (arith, few_words c.before.before.before.before.before.before.before.before.before.before.before.before.before.before.before.requires.1 (loop-written c.before.before.before.before.before.before.before.before.before.before.before.before.before.before.before.requires.1 _ _ _ c.before.before.before.before.before.before.before.before.before.settle.result c.before.before.before.before.before.before.before.before.before.settle.ensures _ _ _ c.before.before.before.before.before.before.before.end.given.1 _ _ _ c.before.before.write-loop.ensures))
+counted-requires c κs = omega (arith, few_words c.before.before.before.before.before.before.before.before.before.before.before.before.before.before.before.requires.1 (loop_written c.before.before.before.before.before.before.before.before.before.before.before.before.before.before.before.requires.1 _ _ _ c.before.before.before.before.before.before.before.before.before.settle.result c.before.before.before.before.before.before.before.before.before.settle.ensures _ _ _ c.before.before.before.before.before.before.before.end.given.1 _ _ _ c.before.before.write-loop.ensures))
 
 same_length : tie.Need-same-length
 same_length c = search rules
 
 returns-2 : tie.Need-returns-2
-returns-2 c = record { ran = (_, c.counted.ensures, loop-written c.before.before.before.before.before.before.before.before.before.before.before.before.before.before.before.before.requires.1 _ _ _ c.before.before.before.before.before.before.before.before.before.before.settle.result c.before.before.before.before.before.before.before.before.before.before.settle.ensures _ _ _ c.before.before.before.before.before.before.before.before.end.given.1 _ _ _ c.before.before.before.write-loop.ensures) }
+returns-2 c = record { ran = (_, c.counted.ensures, loop_written c.before.before.before.before.before.before.before.before.before.before.before.before.before.before.before.before.requires.1 _ _ _ c.before.before.before.before.before.before.before.before.before.before.settle.result c.before.before.before.before.before.before.before.before.before.before.settle.ensures _ _ _ c.before.before.before.before.before.before.before.before.end.given.1 _ _ _ c.before.before.before.write-loop.ensures) }
 
 pub solve-spec : {M : Type 1} → statement M
 solve-spec =

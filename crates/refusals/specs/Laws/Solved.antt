@@ -2,165 +2,165 @@
 -- Assumes nothing.
 use Rattle.std.specs.Prelude.{◌≡◌, refl, List, ℕ, ◌+◌, ◌*◌, ◌≤◌, ◌<◌, ℤ, pos, ◌-ℤ◌, ◌≤ℤ◌, get_or}
 use Rattle.std.proofs.Common.{ap, ◌∙◌, arith}
-use Rattle.sheet.specs.Lag.{excess, lagOf}
-use Rattle.sheet.specs.Core.{blocksIn, wiresIn, registersIn, shape_of, core_of}
+use Rattle.sheet.specs.Lag.{excess, lag_of}
+use Rattle.sheet.specs.Core.{blocks_in, wires_in, registers_in, shape_of, core_of}
 use Rattle.sheet.specs.Sheet.{Formed}
-use Rattle.sheet.specs.Laws.Integer.{up, down, minus, sub_parts, le_parts, parts-le}
-use Rattle.sheet.specs.Laws.Sheet.{lower-parts, upper-parts}
-use Rattle.sheet.specs.Laws.Formed.{formed-core}
+use Rattle.sheet.specs.Laws.Integer.{up, down, minus, sub_parts, le_parts, parts_le}
+use Rattle.sheet.specs.Laws.Sheet.{lower_parts, upper_parts}
+use Rattle.sheet.specs.Laws.Formed.{formed_core}
 use Rattle.paths.specs.Table.{Best, Entry, Table, best, none}
-use Rattle.paths.specs.Laws.Path.{joins-start-lt, joins-end-lt}
-use Rattle.tables.specs.Laws.Entry.{entry-unique}
-use Rattle.moves.specs.Lags.{movedBy, InRange, Fits, Permitted, Meets}
+use Rattle.paths.specs.Laws.Path.{joins_start_lt, joins_end_lt}
+use Rattle.tables.specs.Laws.Entry.{entry_unique}
+use Rattle.moves.specs.Lags.{moved_by, InRange, Fits, Permitted, Meets}
 use Rattle.moves.specs.Laws.Lattice.{value}
 use Rattle.moves.specs.Laws.Written as L
 use Rattle.solver.specs.System.{Given, Rule, Rule.path, Rule.wire, Rule.ceiling, Solution, tabled}
 use Rattle.solver.specs.State.{State, AllHold}
-use Rattle.solver.specs.Laws.Begun.{rest-solves}
+use Rattle.solver.specs.Laws.Begun.{rest_solves}
 use Rattle.witness.specs.Stands.{Stands}
 use Rattle.promises.specs.Lags.{Largest}
 use Rattle.promises.specs.Rules.{Keeps}
-use Rattle.promises.specs.Laws.Rules.{meets-keeps, keeps_meets}
+use Rattle.promises.specs.Laws.Rules.{meets_keeps, keeps_meets}
 
 module _ {s : List ℕ} {g : Given} (S : Stands s g) where
   formed : Formed (core_of s)
-  formed = formed-core s S.sound.formed
+  formed = formed_core s S.sound.formed
 
   -- the entry of a pair at the solver's place for it: of a path table, and of any pair with a path rule
   abbrev EntryAt : ℕ → ℕ → Type 0
-  EntryAt u v = Entry (shape_of s) (registersIn s) u v (get_or g.registers (u * g.n + v) 0) (get_or g.delays (u * g.n + v) 0)
+  EntryAt u v = Entry (shape_of s) (registers_in s) u v (get_or g.registers (u * g.n + v) 0) (get_or g.delays (u * g.n + v) 0)
 
-  entry_at : Table (shape_of s) (registersIn s) g.registers g.delays → (u v : ℕ) → u < g.n → v < g.n → EntryAt u v
-  entry_at T u v hu hv = rw S.n-is (T u v (omega (arith, S.n-is)) (omega (arith, S.n-is)))
+  entry_at : Table (shape_of s) (registers_in s) g.registers g.delays → (u v : ℕ) → u < g.n → v < g.n → EntryAt u v
+  entry_at T u v hu hv = rw S.n_is (T u v (omega (arith, S.n_is)) (omega (arith, S.n_is)))
 
-  pub entry-slow : (u v : ℕ) → u < g.n → v < g.n → g.period < get_or g.delays (u * g.n + v) 0 → EntryAt u v
-  entry-slow u v hu hv l = entry_at (S.table (record { a = u; b = v; a_block = hu; b-block = hv; slow = l })) u v hu hv
+  pub entry_slow : (u v : ℕ) → u < g.n → v < g.n → g.period < get_or g.delays (u * g.n + v) 0 → EntryAt u v
+  entry_slow u v hu hv l = entry_at (S.table (record { a = u; b = v; a_block = hu; b_block = hv; slow = l })) u v hu hv
 
   -- both limits of a block, without subtraction
   low_parts : (b : ℕ) → b < g.n → get_or g.lower b 0 + down ((core_of s).lower b) ≡ up ((core_of s).lower b) + 32768
   low_parts b h =
-      let k : b < blocksIn s = omega (arith, S.n-is) in
-      omega (arith, S.lower-is b k, lower-parts b _ _ _ (formed.block b k))
+      let k : b < blocks_in s = omega (arith, S.n_is) in
+      omega (arith, S.lower_is b k, lower_parts b _ _ _ (formed.block b k))
 
   high_parts : (b : ℕ) → b < g.n → get_or g.upper b 0 + down ((core_of s).upper b) ≡ up ((core_of s).upper b) + 32768
   high_parts b h =
-      let k : b < blocksIn s = omega (arith, S.n-is) in
-      omega (arith, S.upper_is b k, upper-parts b _ _ _ (formed.block b k))
+      let k : b < blocks_in s = omega (arith, S.n_is) in
+      omega (arith, S.upper_is b k, upper_parts b _ _ _ (formed.block b k))
 
   -- ---- lags that keep all rules are a solution
   module _ (r : ℕ → ℤ) (K : Keeps (core_of s) g.period r) where
     -- the excess number of a permitted lag
-    lag-parts : (b : ℕ) → b < g.n → excess (r b) + down (r b) ≡ up (r b) + 32768
-    lag-parts b h =
-        let k : b < blocksIn s = omega (arith, S.n-is) in
-        L.lag-parts s S.sound.formed r b k (K.permitted.in-range b k)
+    lag_parts : (b : ℕ) → b < g.n → excess (r b) + down (r b) ≡ up (r b) + 32768
+    lag_parts b h =
+        let k : b < blocks_in s = omega (arith, S.n_is) in
+        L.lag_parts s S.sound.formed r b k (K.permitted.in_range b k)
 
-    kept-path : (a b W D : ℕ) → a < g.n → b < g.n → Entry (shape_of s) (registersIn s) a b W D → g.period < D → excess (r a) + 32768 ≤ excess (r b) + (W + 32767)
-    kept-path a b W D ha hb (best e) l =
-        omega (arith, lag-parts a ha, lag-parts b hb, le_parts (r a -ℤ r b) (pos W -ℤ pos 1) (K.path a b W D e l), minus (r a) (r b), minus (pos W) (pos 1))
-    kept-path a b W D ha hb (none f x y) l = absurd (omega arith)
+    kept_path : (a b W D : ℕ) → a < g.n → b < g.n → Entry (shape_of s) (registers_in s) a b W D → g.period < D → excess (r a) + 32768 ≤ excess (r b) + (W + 32767)
+    kept_path a b W D ha hb (best e) l =
+        omega (arith, lag_parts a ha, lag_parts b hb, le_parts (r a -ℤ r b) (pos W -ℤ pos 1) (K.path a b W D e l), minus (r a) (r b), minus (pos W) (pos 1))
+    kept_path a b W D ha hb (none f x y) l = absurd (omega arith)
 
-    from-lt : (j : ℕ) → j < wiresIn s → (core_of s).shape.from j < g.n
-    from-lt j h = omega (arith, S.n-is, formed.from_block j h)
+    from_lt : (j : ℕ) → j < wires_in s → (core_of s).shape.from j < g.n
+    from_lt j h = omega (arith, S.n_is, formed.from_block j h)
 
-    to-lt : (j : ℕ) → j < wiresIn s → (core_of s).shape.to j < g.n
-    to-lt j h = omega (arith, S.n-is, formed.to_block j h)
+    to_lt : (j : ℕ) → j < wires_in s → (core_of s).shape.to j < g.n
+    to_lt j h = omega (arith, S.n_is, formed.to_block j h)
 
     kept : (i a b k : ℕ) → Rule g i a b k → excess (r a) + 32768 ≤ excess (r b) + k
-    kept i a b k (path ei ha hb hd ek) = rw ek (kept-path a b _ _ ha hb (entry-slow a b ha hb hd) hd)
+    kept i a b k (path ei ha hb hd ek) = rw ek (kept_path a b _ _ ha hb (entry_slow a b ha hb hd) hd)
     kept i a b k (wire j hj ei ea eb ek) =
-        let h : j < wiresIn s = omega (arith, S.m-is) in
+        let h : j < wires_in s = omega (arith, S.m_is) in
         let u = (core_of s).shape.from j in
         let v = (core_of s).shape.to j in
         omega (
           arith,
           ap (λ (x : ℕ). excess (r x)) (ea ∙ S.from_is j h),
           ap (λ (x : ℕ). excess (r x)) (eb ∙ S.to_is j h),
-          S.wires-is j h,
-          lag-parts u (from-lt j h),
-          lag-parts v (to-lt j h),
+          S.wires_is j h,
+          lag_parts u (from_lt j h),
+          lag_parts v (to_lt j h),
           value (core_of s) j r,
-          le_parts (pos 0) (movedBy (core_of s) r j) (K.permitted.fits j h).0,
+          le_parts (pos 0) (moved_by (core_of s) r j) (K.permitted.fits j h).0,
         )
     kept i a b k (ceiling j hj ei ea eb ek) =
-        let h : j < wiresIn s = omega (arith, S.m-is) in
+        let h : j < wires_in s = omega (arith, S.m_is) in
         let u = (core_of s).shape.from j in
         let v = (core_of s).shape.to j in
         omega (
           arith,
           ap (λ (x : ℕ). excess (r x)) (eb ∙ S.from_is j h),
           ap (λ (x : ℕ). excess (r x)) (ea ∙ S.to_is j h),
-          S.ceilings-is j h,
-          lag-parts u (from-lt j h),
-          lag-parts v (to-lt j h),
+          S.ceilings_is j h,
+          lag_parts u (from_lt j h),
+          lag_parts v (to_lt j h),
           value (core_of s) j r,
-          le_parts (movedBy (core_of s) r j) (pos ((core_of s).ceiling j)) (K.permitted.fits j h).1,
+          le_parts (moved_by (core_of s) r j) (pos ((core_of s).ceiling j)) (K.permitted.fits j h).1,
         )
 
-    pub solution-of : Solution g (λ b. excess (r b))
-    solution-of = record {
+    pub solution_of : Solution g (λ b. excess (r b))
+    solution_of = record {
       keeps = kept;
       low = λ b h.
-          let i = K.permitted.in-range b (omega (arith, S.n-is)) in
-          omega (arith, low_parts b h, lag-parts b h, le_parts ((core_of s).lower b) (r b) i.0);
+          let i = K.permitted.in_range b (omega (arith, S.n_is)) in
+          omega (arith, low_parts b h, lag_parts b h, le_parts ((core_of s).lower b) (r b) i.0);
       high = λ b h.
-          let i = K.permitted.in-range b (omega (arith, S.n-is)) in
-          omega (arith, high_parts b h, lag-parts b h, le_parts (r b) ((core_of s).upper b) i.1);
+          let i = K.permitted.in_range b (omega (arith, S.n_is)) in
+          omega (arith, high_parts b h, lag_parts b h, le_parts (r b) ((core_of s).upper b) i.1);
     }
 
   -- ---- a solution's lags are permitted, and with a path table they keep all rules
   module _ (x : ℕ → ℕ) (X : Solution g x) where
     abbrev lags : ℕ → ℤ
-    lags b = lagOf (x b)
+    lags b = lag_of (x b)
 
-    range : (b : ℕ) → b < blocksIn s → InRange (core_of s) lags b
+    range : (b : ℕ) → b < blocks_in s → InRange (core_of s) lags b
     range b k =
-        let h : b < g.n = omega (arith, S.n-is) in (
-          parts-le ((core_of s).lower b) (lags b) (omega (arith, sub_parts (x b) 32768, low_parts b h, X.low b h)),
-          parts-le (lags b) ((core_of s).upper b) (omega (arith, sub_parts (x b) 32768, high_parts b h, X.high b h)),
+        let h : b < g.n = omega (arith, S.n_is) in (
+          parts_le ((core_of s).lower b) (lags b) (omega (arith, sub_parts (x b) 32768, low_parts b h, X.low b h)),
+          parts_le (lags b) ((core_of s).upper b) (omega (arith, sub_parts (x b) 32768, high_parts b h, X.high b h)),
         )
 
-    fits : (j : ℕ) → j < wiresIn s → Fits (core_of s) lags j
+    fits : (j : ℕ) → j < wires_in s → Fits (core_of s) lags j
     fits j h =
-        let l : j < g.m = omega (arith, S.m-is) in
+        let l : j < g.m = omega (arith, S.m_is) in
         let u = (core_of s).shape.from j in
         let v = (core_of s).shape.to j in
         let eu = ap x (S.from_is j h) in
         let ev = ap x (S.to_is j h) in (
-          parts-le (pos 0) (movedBy (core_of s) lags j)
+          parts_le (pos 0) (moved_by (core_of s) lags j)
               (omega (
                 arith,
                 X.keeps (2 + j) (get_or g.from j 0) (get_or g.to j 0) (get_or g.wires j 0) (wire j l refl refl refl refl),
                 eu,
                 ev,
-                S.wires-is j h,
+                S.wires_is j h,
                 sub_parts (x u) 32768,
                 sub_parts (x v) 32768,
                 value (core_of s) j lags,
               )),
-          parts-le (movedBy (core_of s) lags j) (pos ((core_of s).ceiling j))
+          parts_le (moved_by (core_of s) lags j) (pos ((core_of s).ceiling j))
               (omega (
                 arith,
                 X.keeps (258 + j) (get_or g.to j 0) (get_or g.from j 0) (get_or g.ceilings j 0) (ceiling j l refl refl refl refl),
                 eu,
                 ev,
-                S.ceilings-is j h,
+                S.ceilings_is j h,
                 sub_parts (x u) 32768,
                 sub_parts (x v) 32768,
                 value (core_of s) j lags,
               )),
         )
 
-    pub permitted-of : Permitted (core_of s) lags
-    permitted-of = record { in-range = range; fits = fits }
+    pub permitted_of : Permitted (core_of s) lags
+    permitted_of = record { in_range = range; fits = fits }
 
-    module _ (T : Table (shape_of s) (registersIn s) g.registers g.delays) where
-      slow : (u v W D : ℕ) → Best (shape_of s) (registersIn s) u v W D → g.period < D → (lags u -ℤ lags v) ≤ℤ (pos W -ℤ pos 1)
+    module _ (T : Table (shape_of s) (registers_in s) g.registers g.delays) where
+      slow : (u v W D : ℕ) → Best (shape_of s) (registers_in s) u v W D → g.period < D → (lags u -ℤ lags v) ≤ℤ (pos W -ℤ pos 1)
       slow u v W D b l =
-          let hu : u < g.n = omega (arith, S.n-is, joins-start-lt (shape_of s) u b.way.wires v b.way.joins) in
-          let hv : v < g.n = omega (arith, S.n-is, joins-end-lt (shape_of s) u b.way.wires v b.way.joins) in
-          let e = entry-unique (shape_of s) (registersIn s) u v W D _ _ (best b) (entry_at T u v hu hv) in
-          parts-le (lags u -ℤ lags v) (pos W -ℤ pos 1)
+          let hu : u < g.n = omega (arith, S.n_is, joins_start_lt (shape_of s) u b.way.wires v b.way.joins) in
+          let hv : v < g.n = omega (arith, S.n_is, joins_end_lt (shape_of s) u b.way.wires v b.way.joins) in
+          let e = entry_unique (shape_of s) (registers_in s) u v W D _ _ (best b) (entry_at T u v hu hv) in
+          parts_le (lags u -ℤ lags v) (pos W -ℤ pos 1)
           (omega (
             arith,
             X.keeps 1 u v (W + 32767) (path refl hu hv (omega (arith, e.1)) (omega (arith, e.0))),
@@ -170,38 +170,38 @@ module _ {s : List ℕ} {g : Given} (S : Stands s g) where
             minus (pos W) (pos 1),
           ))
 
-      pub keeps-of : Keeps (core_of s) g.period lags
-      keeps-of = record { permitted = permitted-of; path = slow }
+      pub keeps_of : Keeps (core_of s) g.period lags
+      keeps_of = record { permitted = permitted_of; path = slow }
 
-      pub meets-of : Meets (core_of s) g.period lags
-      meets-of = keeps_meets (core_of s) g.period lags _ _ T keeps-of
+      pub meets_of : Meets (core_of s) g.period lags
+      meets_of = keeps_meets (core_of s) g.period lags _ _ T keeps_of
 
   -- ---- at rest the lags are permitted, and with a path table the largest
-  pub rest-permitted : {e par up' : List ℕ} → State g e par up' → AllHold g e → Permitted (core_of s) (λ b. lagOf (get_or e b 0))
-  rest-permitted {e} St all = permitted-of (λ b. get_or e b 0) (rest-solves St all)
+  pub rest_permitted : {e par up' : List ℕ} → State g e par up' → AllHold g e → Permitted (core_of s) (λ b. lag_of (get_or e b 0))
+  rest_permitted {e} St all = permitted_of (λ b. get_or e b 0) (rest_solves St all)
 
-  pub rest-largest : {e par up' : List ℕ} → Table (shape_of s) (registersIn s) g.registers g.delays → State g e par up' → AllHold g e
-      → Largest (core_of s) g.period (λ b. lagOf (get_or e b 0))
-  rest-largest {e} T St all = record {
-    meets = meets-of (λ b. get_or e b 0) (rest-solves St all) T;
+  pub rest_largest : {e par up' : List ℕ} → Table (shape_of s) (registers_in s) g.registers g.delays → State g e par up' → AllHold g e
+      → Largest (core_of s) g.period (λ b. lag_of (get_or e b 0))
+  rest_largest {e} T St all = record {
+    meets = meets_of (λ b. get_or e b 0) (rest_solves St all) T;
     largest = λ q m b h.
-        let K = meets-keeps (core_of s) g.period q m in
-        let k : b < g.n = omega (arith, S.n-is) in
-        parts-le (q b) (lagOf (get_or e b 0))
-        (omega (arith, St.most (λ i. excess (q i)) (solution-of q K) b k, lag-parts q K b k, sub_parts (get_or e b 0) 32768));
+        let K = meets_keeps (core_of s) g.period q m in
+        let k : b < g.n = omega (arith, S.n_is) in
+        parts_le (q b) (lag_of (get_or e b 0))
+        (omega (arith, St.most (λ i. excess (q i)) (solution_of q K) b k, lag_parts q K b k, sub_parts (get_or e b 0) 32768));
   }
 
   -- ---- a path table, for another period
-  pub stands-with : (q : ℕ) (registers delays : List ℕ) → Table (shape_of s) (registersIn s) registers delays → Stands s (tabled g q registers delays)
-  stands-with q registers delays T = record {
+  pub stands_with : (q : ℕ) (registers delays : List ℕ) → Table (shape_of s) (registers_in s) registers delays → Stands s (tabled g q registers delays)
+  stands_with q registers delays T = record {
     sound = S.sound;
-    n-is = S.n-is;
-    m-is = S.m-is;
-    lower-is = S.lower-is;
+    n_is = S.n_is;
+    m_is = S.m_is;
+    lower_is = S.lower_is;
     upper_is = S.upper_is;
     from_is = S.from_is;
     to_is = S.to_is;
-    wires-is = S.wires-is;
-    ceilings-is = S.ceilings-is;
+    wires_is = S.wires_is;
+    ceilings_is = S.ceilings_is;
     table = λ _. T;
   }

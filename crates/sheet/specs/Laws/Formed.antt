@@ -6,37 +6,37 @@ use Rattle.std.proofs.Math.Decide.{dec_le, dec_lt, ℕ_discrete}
 use Rattle.std.proofs.Math.IntN.{ℤ_discrete}
 use Rattle.sheet.specs.Bytes.{u32_at}
 use Rattle.sheet.specs.Lag.{excess}
-use Rattle.sheet.specs.Core.{Core, core_of, blocksIn, wiresIn, delayIn, lowerIn, upperIn, fromIn, toIn, registersIn, spareIn}
+use Rattle.sheet.specs.Core.{Core, core_of, blocks_in, wires_in, delay_in, lower_in, upper_in, from_in, to_in, registers_in, spare_in}
 use Rattle.sheet.specs.Rules.{None, Exact, answer}
-use Rattle.sheet.specs.Sheet.{BlockRule, WireRule, frameRules, entryRules, Offsets, Framed, FormedSheet, Formed}
+use Rattle.sheet.specs.Sheet.{BlockRule, WireRule, frame_rules, entry_rules, Offsets, Framed, FormedSheet, Formed}
 use Rattle.sheet.specs.Reads.{BlockNumbers}
-use Rattle.sheet.specs.Laws.Integer.{up, down, le_parts, parts-le}
-use Rattle.sheet.specs.Laws.Rules.{NonZero, refusal-exact, place-exact, refusal-nonzero, place-nonzero}
-use Rattle.sheet.specs.Laws.Sheet.{block-numbers}
+use Rattle.sheet.specs.Laws.Integer.{up, down, le_parts, parts_le}
+use Rattle.sheet.specs.Laws.Rules.{NonZero, refusal_exact, place_exact, refusal_nonzero, place_nonzero}
+use Rattle.sheet.specs.Laws.Sheet.{block_numbers}
 
 -- ---- a rule that does not fail holds, since each of its parts is decided
 pub stable : {A : Type 0} → Dec A → ((A → ⊥) → ⊥) → A
 stable (yes a) nn = a
 stable (no f) nn = absurd (nn f)
 
-pub decLeℤ : (x y : ℤ) → Dec (x ≤ℤ y)
-decLeℤ x y =
-    elim (dec_le (up x + down y) (up y + down x)) [ yes h ↦ yes (parts-le x y h) | no h ↦ no (λ k. h (le_parts x y k)) ]
+pub dec_le_ℤ : (x y : ℤ) → Dec (x ≤ℤ y)
+dec_le_ℤ x y =
+    elim (dec_le (up x + down y) (up y + down x)) [ yes h ↦ yes (parts_le x y h) | no h ↦ no (λ k. h (le_parts x y k)) ]
 
 module _ (b d : ℕ) (l u : ℤ) (nn : (BlockRule b d l u → ⊥) → ⊥) where
-  pub block-stable : BlockRule b d l u
-  block-stable = record {
+  pub block_stable : BlockRule b d l u
+  block_stable = record {
     small = stable (dec_le d 10000) (λ k. nn (λ r. k r.small));
-    lower-limits = (
-      stable (decLeℤ (negsuc 999) l) (λ k. nn (λ r. k r.lower-limits.0)),
-      stable (decLeℤ l (pos 1000)) (λ k. nn (λ r. k r.lower-limits.1)),
+    lower_limits = (
+      stable (dec_le_ℤ (negsuc 999) l) (λ k. nn (λ r. k r.lower_limits.0)),
+      stable (dec_le_ℤ l (pos 1000)) (λ k. nn (λ r. k r.lower_limits.1)),
     );
-    upper-limits = (
-      stable (decLeℤ (negsuc 999) u) (λ k. nn (λ r. k r.upper-limits.0)),
-      stable (decLeℤ u (pos 1000)) (λ k. nn (λ r. k r.upper-limits.1)),
+    upper_limits = (
+      stable (dec_le_ℤ (negsuc 999) u) (λ k. nn (λ r. k r.upper_limits.0)),
+      stable (dec_le_ℤ u (pos 1000)) (λ k. nn (λ r. k r.upper_limits.1)),
     );
-    ordered = stable (decLeℤ l u) (λ k. nn (λ r. k r.ordered));
-    narrow = stable (decLeℤ (u -ℤ l) (pos 1000)) (λ k. nn (λ r. k r.narrow));
+    ordered = stable (dec_le_ℤ l u) (λ k. nn (λ r. k r.ordered));
+    narrow = stable (dec_le_ℤ (u -ℤ l) (pos 1000)) (λ k. nn (λ r. k r.narrow));
     host = λ z. (
       stable (ℕ_discrete d 0) (λ k. nn (λ r. k (r.host z).0)),
       stable (ℤ_discrete l (pos 0)) (λ k. nn (λ r. k (r.host z).1)),
@@ -45,8 +45,8 @@ module _ (b d : ℕ) (l u : ℤ) (nn : (BlockRule b d l u → ⊥) → ⊥) wher
   }
 
 module _ (n f t w z : ℕ) (nn : (WireRule n f t w z → ⊥) → ⊥) where
-  pub wire-stable : WireRule n f t w z
-  wire-stable = record {
+  pub wire_stable : WireRule n f t w z
+  wire_stable = record {
     from_block = stable (dec_lt f n) (λ k. nn (λ r. k r.from_block));
     to_block = stable (dec_lt t n) (λ k. nn (λ r. k r.to_block));
     few = stable (dec_le w 2000) (λ k. nn (λ r. k r.few));
@@ -54,41 +54,41 @@ module _ (n f t w z : ℕ) (nn : (WireRule n f t w z → ⊥) → ⊥) where
   }
 
 module _ (s : List ℕ) where
-  offsets-stable : ((Offsets s → ⊥) → ⊥) → Offsets s
-  offsets-stable nn = record {
+  offsets_stable : ((Offsets s → ⊥) → ⊥) → Offsets s
+  offsets_stable nn = record {
     blocks_at = stable (ℕ_discrete (u32_at s 4) 16) (λ k. nn (λ r. k r.blocks_at));
-    wires-at = stable (ℕ_discrete (u32_at s 8) (16 + 8 * blocksIn s)) (λ k. nn (λ r. k r.wires-at));
-    total = stable (ℕ_discrete (u32_at s 12) (16 + 8 * blocksIn s + 8 * wiresIn s)) (λ k. nn (λ r. k r.total));
-    whole = stable (ℕ_discrete (length s) (16 + 8 * blocksIn s + 8 * wiresIn s)) (λ k. nn (λ r. k r.whole));
+    wires_at = stable (ℕ_discrete (u32_at s 8) (16 + 8 * blocks_in s)) (λ k. nn (λ r. k r.wires_at));
+    total = stable (ℕ_discrete (u32_at s 12) (16 + 8 * blocks_in s + 8 * wires_in s)) (λ k. nn (λ r. k r.total));
+    whole = stable (ℕ_discrete (length s) (16 + 8 * blocks_in s + 8 * wires_in s)) (λ k. nn (λ r. k r.whole));
   }
 
   -- ---- what the refusals leave
-  pub none-framed : None (frameRules s) → Framed s
-  none-framed h =
+  pub none_framed : None (frame_rules s) → Framed s
+  none_framed h =
       let few = h.1.0 in
       record {
-        some_block = stable (dec_le 1 (blocksIn s)) (λ k. few (inl (omega arith)));
-        few-blocks = stable (dec_le (blocksIn s) 64) (λ k. few (inr (inl (omega arith))));
-        few-wires = stable (dec_le (wiresIn s) 256) (λ k. few (inr (inr (omega arith))));
-        offsets = offsets-stable h.1.1.0;
+        some_block = stable (dec_le 1 (blocks_in s)) (λ k. few (inl (omega arith)));
+        few_blocks = stable (dec_le (blocks_in s) 64) (λ k. few (inr (inl (omega arith))));
+        few_wires = stable (dec_le (wires_in s) 256) (λ k. few (inr (inr (omega arith))));
+        offsets = offsets_stable h.1.1.0;
       }
 
-  pub none-formed : Framed s → None (entryRules s) → FormedSheet s
-  none-formed f h = record {
+  pub none_formed : Framed s → None (entry_rules s) → FormedSheet s
+  none_formed f h = record {
     framed = f;
-    block = λ b k. block-stable b (delayIn s b) (lowerIn s b) (upperIn s b) (λ bad. h.0 (b, k, bad));
-    wire = λ j k. wire-stable (blocksIn s) (fromIn s j) (toIn s j) (registersIn s j) (spareIn s j) (λ bad. h.1.0 (j, k, bad));
+    block = λ b k. block_stable b (delay_in s b) (lower_in s b) (upper_in s b) (λ bad. h.0 (b, k, bad));
+    wire = λ j k. wire_stable (blocks_in s) (from_in s j) (to_in s j) (registers_in s j) (spare_in s j) (λ bad. h.1.0 (j, k, bad));
   }
 
   -- and no refusal applies to a formed sheet
-  pub formed-none : FormedSheet s → None (entryRules s)
-  formed-none f = (λ h. h.2 (f.block h.0 h.1), (λ h. h.2 (f.wire h.0 h.1), tt))
+  pub formed_none : FormedSheet s → None (entry_rules s)
+  formed_none f = (λ h. h.2 (f.block h.0 h.1), (λ h. h.2 (f.wire h.0 h.1), tt))
 
-  pub formed-core : FormedSheet s → Formed (core_of s)
-  formed-core f = record {
+  pub formed_core : FormedSheet s → Formed (core_of s)
+  formed_core f = record {
     some_block = f.framed.some_block;
-    few-blocks = f.framed.few-blocks;
-    few-wires = f.framed.few-wires;
+    few_blocks = f.framed.few_blocks;
+    few_wires = f.framed.few_wires;
     block = f.block;
     from_block = λ j h. (f.wire j h).from_block;
     to_block = λ j h. (f.wire j h).to_block;
@@ -96,28 +96,28 @@ module _ (s : List ℕ) where
   }
 
   -- ---- each refusal gives one answer
-  pub frame-exact : Exact (frameRules s)
-  frame-exact = (refusal-exact _, (refusal-exact _, (refusal-exact _, tt)))
+  pub frame_exact : Exact (frame_rules s)
+  frame_exact = (refusal_exact _, (refusal_exact _, (refusal_exact _, tt)))
 
-  pub entry-exact : Exact (entryRules s)
-  entry-exact = (place-exact _ _ _, (place-exact _ _ _, tt))
+  pub entry_exact : Exact (entry_rules s)
+  entry_exact = (place_exact _ _ _, (place_exact _ _ _, tt))
 
 -- a formed core's blocks, as numbers
-pub formed-numbers : (c : Core) → Formed c → (b : ℕ) → b < c.shape.n → BlockNumbers b (c.shape.delay b) (excess (c.lower b)) (excess (c.upper b))
-formed-numbers c f b h = block-numbers b (c.shape.delay b) (c.lower b) (c.upper b) (f.block b h)
+pub formed_numbers : (c : Core) → Formed c → (b : ℕ) → b < c.shape.n → BlockNumbers b (c.shape.delay b) (excess (c.lower b)) (excess (c.upper b))
+formed_numbers c f b h = block_numbers b (c.shape.delay b) (c.lower b) (c.upper b) (f.block b h)
 
 -- ---- none of them answers 0
-pub frame-nonzero : (s : List ℕ) → NonZero (frameRules s)
-frame-nonzero s = (
-  refusal-nonzero (answer 1 0 0) (omega arith),
+pub frame_nonzero : (s : List ℕ) → NonZero (frame_rules s)
+frame_nonzero s = (
+  refusal_nonzero (answer 1 0 0) (omega arith),
   (
-    refusal-nonzero (answer 2 0 0) (omega arith),
+    refusal_nonzero (answer 2 0 0) (omega arith),
     (
-      refusal-nonzero (answer 3 0 0) (omega arith),
+      refusal_nonzero (answer 3 0 0) (omega arith),
       tt,
     ),
   ),
 )
 
-pub entry-nonzero : (s : List ℕ) → NonZero (entryRules s)
-entry-nonzero s = (place-nonzero _ _ (λ b. answer 5 b 0) (λ b. omega arith), (place-nonzero _ _ (λ j. answer 6 j 0) (λ j. omega arith), tt))
+pub entry_nonzero : (s : List ℕ) → NonZero (entry_rules s)
+entry_nonzero s = (place_nonzero _ _ (λ b. answer 5 b 0) (λ b. omega arith), (place_nonzero _ _ (λ j. answer 6 j 0) (λ j. omega arith), tt))

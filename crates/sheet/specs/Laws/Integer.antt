@@ -1,5 +1,5 @@
 -- Integers as differences of two naturals, `up z - down z`: a law on integers becomes one that `omega` proves.
--- A fact on integers goes in by `plus`, `minus`, `le_parts`, and comes out by `parts-le`, `parts-eq`.
+-- A fact on integers goes in by `plus`, `minus`, `le_parts`, and comes out by `parts_le`, `parts_eq`.
 -- Assumes nothing.
 use Rattle.std.specs.Prelude.{◌≡◌, refl, ℕ, zero, suc, ◌+◌, ◌-◌, ◌<◌, ◌≤◌, ℤ, pos, negsuc, neg_ℤ, ◌+ℤ◌, ◌-ℤ◌, ◌≤ℤ◌}
 use Rattle.std.proofs.Common.{ap, arith, lt-ltb, le-ltb, le→leb, leb→le}
@@ -15,15 +15,15 @@ down (pos k) = 0
 down (negsuc k) = suc k
 
 -- a difference of naturals, by its sign
-pub sub-le : (a b : ℕ) → b ≤ a → sub_ℕ a b ≡ pos (a - b)
-sub-le a b h = rw (le-ltb a b h)
+pub sub_le : (a b : ℕ) → b ≤ a → sub_ℕ a b ≡ pos (a - b)
+sub_le a b h = rw (le-ltb a b h)
 
-pub sub-lt : (a b : ℕ) → a < b → sub_ℕ a b ≡ negsuc (b - suc a)
-sub-lt a b h = rw (lt-ltb a b h)
+pub sub_lt : (a b : ℕ) → a < b → sub_ℕ a b ≡ negsuc (b - suc a)
+sub_lt a b h = rw (lt-ltb a b h)
 
 parts' : (a b : ℕ) → Dec (a < b) → up (sub_ℕ a b) + b ≡ a + down (sub_ℕ a b)
-parts' a b (yes h) = rw (sub-lt a b h) (omega arith)
-parts' a b (no h) = rw (sub-le a b (omega arith)) (omega arith)
+parts' a b (yes h) = rw (sub_lt a b h) (omega arith)
+parts' a b (no h) = rw (sub_le a b (omega arith)) (omega arith)
 
 pub sub_parts : (a b : ℕ) → up (sub_ℕ a b) + b ≡ a + down (sub_ℕ a b)
 sub_parts a b = parts' a b (dec_lt a b)
@@ -48,14 +48,14 @@ le_parts (pos a) (negsuc b) h = absurd h.le
 le_parts (negsuc a) (pos b) h = omega arith
 le_parts (negsuc a) (negsuc b) h = omega (arith, leb→le b a h.le)
 
-pub parts-le : (x y : ℤ) → up x + down y ≤ up y + down x → x ≤ℤ y
-parts-le (pos a) (pos b) h = record { le = le→leb a b (omega arith) }
-parts-le (pos a) (negsuc b) h = absurd (let k : 1 ≤ 0 = omega arith in omega arith)
-parts-le (negsuc a) (pos b) h = record { le = tt }
-parts-le (negsuc a) (negsuc b) h = record { le = le→leb b a (omega arith) }
+pub parts_le : (x y : ℤ) → up x + down y ≤ up y + down x → x ≤ℤ y
+parts_le (pos a) (pos b) h = record { le = le→leb a b (omega arith) }
+parts_le (pos a) (negsuc b) h = absurd (let k : 1 ≤ 0 = omega arith in omega arith)
+parts_le (negsuc a) (pos b) h = record { le = tt }
+parts_le (negsuc a) (negsuc b) h = record { le = le→leb b a (omega arith) }
 
-pub parts-eq : (x y : ℤ) → up x + down y ≡ up y + down x → x ≡ y
-parts-eq (pos a) (pos b) h = ap pos (omega arith)
-parts-eq (pos a) (negsuc b) h = absurd (omega arith)
-parts-eq (negsuc a) (pos b) h = absurd (omega arith)
-parts-eq (negsuc a) (negsuc b) h = ap negsuc (omega arith)
+pub parts_eq : (x y : ℤ) → up x + down y ≡ up y + down x → x ≡ y
+parts_eq (pos a) (pos b) h = ap pos (omega arith)
+parts_eq (pos a) (negsuc b) h = absurd (omega arith)
+parts_eq (negsuc a) (pos b) h = absurd (omega arith)
+parts_eq (negsuc a) (negsuc b) h = ap negsuc (omega arith)

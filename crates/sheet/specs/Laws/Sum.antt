@@ -7,8 +7,8 @@ unfoldable pub sum : List ℕ → ℕ
 sum [] = 0
 sum (x ∷ xs) = x + sum xs
 
-pub sum-set : (l : List ℕ) (i y : ℕ) → i < length l → sum (set l i y) + get_or l i 0 ≡ sum l + y
+pub sum_set : (l : List ℕ) (i y : ℕ) → i < length l → sum (set l i y) + get_or l i 0 ≡ sum l + y
 unfolding sum
-sum-set [] i y h = absurd (not-suc-le-zero h)
-sum-set (x ∷ xs) zero y h = omega arith
-sum-set (x ∷ xs) (suc i) y h = omega (arith, sum-set xs i y (le_of_suc-le-suc h))
+sum_set [] i y h = absurd (not-suc-le-zero h)
+sum_set (x ∷ xs) zero y h = omega arith
+sum_set (x ∷ xs) (suc i) y h = omega (arith, sum_set xs i y (le_of_suc-le-suc h))

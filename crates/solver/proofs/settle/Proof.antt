@@ -4,7 +4,7 @@ use native.Mathlib.Omega.{arith}
 use Rattle.solver.specs.System.{Given}
 use Rattle.solver.specs.State.{State, Lists}
 use Rattle.sheet.specs.Laws.Sum.{sum}
-use Rattle.solver.specs.Laws.Sweep.{turn-kept, table-long, path-rules}
+use Rattle.solver.specs.Laws.Sweep.{turn_kept, table_long, path_rules}
 use Rattle.solver.proofs.settle.Statement.{statement}
 use Rattle.solver.proofs.settle.Tie as tie
 
@@ -15,7 +15,7 @@ abbrev decreases-loop : tie.decreases-loop
 decreases-loop n m period lower from to wires ceilings registers delays e₀ par₀ up₀ longest e par up = sum e
 
 longest-delay-requires : tie.Need-longest-delay-requires invariant-loop decreases-loop
-longest-delay-requires c κs = let g = c.requires.0 in let St = c.requires.1 in let L = c.requires.2 in (table-long (path-rules L St.fit) St).1
+longest-delay-requires c κs = let g = c.requires.0 in let St = c.requires.1 in let L = c.requires.2 in (table_long (path_rules L St.fit) St).1
 
 loop-holds : tie.Need-loop-init invariant-loop decreases-loop
 loop-holds c = λ g St L. St
@@ -33,13 +33,13 @@ enum-known-k : tie.Need-enum-known-k invariant-loop decreases-loop
 enum-known-k c = search rules
 
 returns-2 : tie.Need-returns-2 invariant-loop decreases-loop
-returns-2 c = λ g St L. let A = turn-kept c.before.before.before.before.round.result _ (c.before.before.before.before.round.ensures g (c.before.before.before.before.before.before.before.before.loop.invariant g St L) L) c.before.before.k.given.1 in (A.state, (A.same c.if1.true).1)
+returns-2 c = λ g St L. let A = turn_kept c.before.before.before.before.round.result _ (c.before.before.before.before.round.ensures g (c.before.before.before.before.before.before.before.before.loop.invariant g St L) L) c.before.before.k.given.1 in (A.state, (A.same c.if1.true).1)
 
 loop-less : tie.Need-loop-smaller invariant-loop decreases-loop
-loop-less c = let g = c.before.before.before.before.before.before.before.before.before.before.requires.0 in let St = c.before.before.before.before.before.before.before.before.before.before.requires.1 in let L = c.before.before.before.before.before.before.before.before.before.before.requires.2 in let A = turn-kept c.before.before.before.before.round.result _ (c.before.before.before.before.round.ensures g (c.before.before.before.before.before.before.before.before.loop.invariant g St L) L) c.before.before.k.given.1 in omega (arith, A.less)
+loop-less c = let g = c.before.before.before.before.before.before.before.before.before.before.requires.0 in let St = c.before.before.before.before.before.before.before.before.before.before.requires.1 in let L = c.before.before.before.before.before.before.before.before.before.before.requires.2 in let A = turn_kept c.before.before.before.before.round.result _ (c.before.before.before.before.round.ensures g (c.before.before.before.before.before.before.before.before.loop.invariant g St L) L) c.before.before.k.given.1 in omega (arith, A.less)
 
 loop-again : tie.Need-loop-preserved invariant-loop decreases-loop
-loop-again c = λ g St L. let A = turn-kept c.before.before.before.before.round.result _ (c.before.before.before.before.round.ensures g (c.before.before.before.before.before.before.before.before.loop.invariant g St L) L) c.before.before.k.given.1 in A.state
+loop-again c = λ g St L. let A = turn_kept c.before.before.before.before.round.result _ (c.before.before.before.before.round.ensures g (c.before.before.before.before.before.before.before.before.loop.invariant g St L) L) c.before.before.k.given.1 in A.state
 
 pub settle-spec : {M : Type 1} → statement M
 settle-spec =

@@ -17,69 +17,69 @@ none = replicate 64 0
 abbrev pub blank : List ℕ
 blank = replicate 4096 0
 
-pub blank-quick : (period : ℕ) → Within blank period
-blank-quick period = record { all = λ i. go i (dec_lt i 4096) }
+pub blank_quick : (period : ℕ) → Within blank period
+blank_quick period = record { all = λ i. go i (dec_lt i 4096) }
   where
     go : (i : ℕ) → Dec (i < 4096) → get_or blank i 0 ≤ period
     go i (yes h) = omega (arith, get_or-replicate {A = ℕ} 4096 i 0 0 h)
     go i (no h) = omega (arith, get_or-eq_default {A = ℕ} blank 0 {n = i} (omega (arith, length-replicate {A = ℕ} 4096 0)))
 
 module _ {g : Given} (F : Fit g) where
-  none-at : (b : ℕ) → b < g.n → get_or none b 0 ≡ 0
-  none-at b h = get_or-replicate 64 b 0 0 (omega (arith, F.few-blocks))
+  none_at : (b : ℕ) → b < g.n → get_or none b 0 ≡ 0
+  none_at b h = get_or-replicate 64 b 0 0 (omega (arith, F.few_blocks))
 
-  none-rooted : Rooted g.n none
-  none-rooted =
+  none_rooted : Rooted g.n none
+  none_rooted =
       record {
-        room = omega (arith, F.few-blocks, length-replicate {A = ℕ} 64 0);
-        inside = λ v h. omega (arith, none-at v h, F.some_block);
+        room = omega (arith, F.few_blocks, length-replicate {A = ℕ} 64 0);
+        inside = λ v h. omega (arith, none_at v h, F.some_block);
         ends = λ v h. go v h (ℕ_discrete v 0);
       }
     where
       go : (v : ℕ) → v < g.n → Dec (v ≡ 0) → (d : ℕ) × Depth none d v
       go v h (yes z) = (0, z)
-      go v h (no nz) = (1, (nz, none-at v h))
+      go v h (no nz) = (1, (nz, none_at v h))
 
   pub begun : State g g.upper none none
   begun =
       record {
         fit = F;
-        e-long = F.upper_long;
-        par-long = length-replicate {A = ℕ} 64 0;
-        up-long = length-replicate {A = ℕ} 64 0;
+        e_long = F.upper_long;
+        par_long = length-replicate {A = ℕ} 64 0;
+        up_long = length-replicate {A = ℕ} 64 0;
         most = λ s sol v h. sol.high v h;
         low = λ v h. F.ordered v h;
         high = λ v h. omega arith;
-        rooted = none-rooted;
+        rooted = none_rooted;
         held = λ v h. (
           get_or g.upper v 0,
-          upper (none-at v h) (none-at v h) refl,
-          omega (arith, ap (λ (u : ℕ). get_or g.upper u 0) (none-at v h), F.host-upper),
+          upper (none_at v h) (none_at v h) refl,
+          omega (arith, ap (λ (u : ℕ). get_or g.upper u 0) (none_at v h), F.host_upper),
         );
       }
 
 -- ---- a path table and a period, where there was no path rule: rules are added, none is taken away
 module _ {g : Given} (quick : Within g.delays g.period) (p : ℕ) (registers delays : List ℕ) where
-  rule-stays : {i a b k : ℕ} → Rule g i a b k → Rule (tabled g p registers delays) i a b k
-  rule-stays {a = a} {b = b} (path ei ha hb hd ek) = absurd (omega (arith, quick.all (a * g.n + b)))
-  rule-stays (wire j hj ei ea eb ek) = wire j hj ei ea eb ek
-  rule-stays (ceiling j hj ei ea eb ek) = ceiling j hj ei ea eb ek
+  rule_stays : {i a b k : ℕ} → Rule g i a b k → Rule (tabled g p registers delays) i a b k
+  rule_stays {a = a} {b = b} (path ei ha hb hd ek) = absurd (omega (arith, quick.all (a * g.n + b)))
+  rule_stays (wire j hj ei ea eb ek) = wire j hj ei ea eb ek
+  rule_stays (ceiling j hj ei ea eb ek) = ceiling j hj ei ea eb ek
 
   link_stays : {i a b k : ℕ} → Link g i a b k → Link (tabled g p registers delays) i a b k
-  link_stays (rule r) = rule (rule-stays r)
+  link_stays (rule r) = rule (rule_stays r)
   link_stays (upper ei eb ek) = upper ei eb ek
 
-  solution-stays : {s : ℕ → ℕ} → Solution (tabled g p registers delays) s → Solution g s
-  solution-stays sol = record { keeps = λ i a b k r. sol.keeps i a b k (rule-stays r); low = sol.low; high = sol.high }
+  solution_stays : {s : ℕ → ℕ} → Solution (tabled g p registers delays) s → Solution g s
+  solution_stays sol = record { keeps = λ i a b k r. sol.keeps i a b k (rule_stays r); low = sol.low; high = sol.high }
 
-  pub state-stays : {e par up : List ℕ} → Fit (tabled g p registers delays) → State g e par up → State (tabled g p registers delays) e par up
-  state-stays F St =
+  pub state_stays : {e par up : List ℕ} → Fit (tabled g p registers delays) → State g e par up → State (tabled g p registers delays) e par up
+  state_stays F St =
       record {
         fit = F;
-        e-long = St.e-long;
-        par-long = St.par-long;
-        up-long = St.up-long;
-        most = λ s sol. St.most s (solution-stays sol);
+        e_long = St.e_long;
+        par_long = St.par_long;
+        up_long = St.up_long;
+        most = λ s sol. St.most s (solution_stays sol);
         low = St.low;
         high = St.high;
         rooted = St.rooted;
@@ -87,5 +87,5 @@ module _ {g : Given} (quick : Within g.delays g.period) (p : ℕ) (registers del
       }
 
 -- ---- at rest the lags are a solution, and the largest
-pub rest-solves : {g : Given} {e par up : List ℕ} → State g e par up → AllHold g e → Solution g (λ b. get_or e b 0)
-rest-solves St all = record { keeps = all; low = St.low; high = St.high }
+pub rest_solves : {g : Given} {e par up : List ℕ} → State g e par up → AllHold g e → Solution g (λ b. get_or e b 0)
+rest_solves St all = record { keeps = all; low = St.low; high = St.high }

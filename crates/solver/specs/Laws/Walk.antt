@@ -5,31 +5,31 @@ use Rattle.std.proofs.Common.{ap, sym, subst, ◌∙◌, arith, add-one, below_m
 use Rattle.std.proofs.Math.Decide.{ℕ_discrete}
 use Rattle.std.proofs.lemmas.List.{get_or-replicate, length-replicate}
 use Rattle.solver.specs.Walk.{Depth, Rooted, iter, Met}
-use Rattle.sheet.specs.Laws.Sum.{sum, sum-set}
+use Rattle.sheet.specs.Laws.Sum.{sum, sum_set}
 
-pub iter-in : (n : ℕ) (par : List ℕ) → Rooted n par → (v : ℕ) → v < n → (k : ℕ) → iter par k v < n
-iter-in n par R v h zero = h
-iter-in n par R v h (suc k) = R.inside (iter par k v) (iter-in n par R v h k)
+pub iter_in : (n : ℕ) (par : List ℕ) → Rooted n par → (v : ℕ) → v < n → (k : ℕ) → iter par k v < n
+iter_in n par R v h zero = h
+iter_in n par R v h (suc k) = R.inside (iter par k v) (iter_in n par R v h k)
 
-same-depth : (par : List ℕ) (d d' v : ℕ) → Depth par d v → Depth par d' v → d ≡ d'
-same-depth par zero zero v p q = refl
-same-depth par zero (suc d') v p q = absurd (q.0 p)
-same-depth par (suc d) zero v p q = absurd (p.0 q)
-same-depth par (suc d) (suc d') v p q = ap suc (same-depth par d d' (get_or par v 0) p.1 q.1)
+same_depth : (par : List ℕ) (d d' v : ℕ) → Depth par d v → Depth par d' v → d ≡ d'
+same_depth par zero zero v p q = refl
+same_depth par zero (suc d') v p q = absurd (q.0 p)
+same_depth par (suc d) zero v p q = absurd (p.0 q)
+same_depth par (suc d) (suc d') v p q = ap suc (same_depth par d d' (get_or par v 0) p.1 q.1)
 
 -- marks: a list of ones, of which those of the blocks that are as near to the host as d are still set; there are more of them than d
 marked : (n : ℕ) (par : List ℕ) → Rooted n par → (ms : List ℕ) → length ms ≡ n → (d v : ℕ) → v < n → Depth par d v
     → ((w j : ℕ) → w < n → Depth par j w → j ≤ d → get_or ms w 0 ≡ 1) → d < sum ms
 marked n par R ms el zero v h p f =
-    omega (arith, f v zero h p (omega arith), sum-set ms v 0 (omega arith))
+    omega (arith, f v zero h p (omega arith), sum_set ms v 0 (omega arith))
 marked n par R ms el (suc d) v h p f =
     omega (
       arith,
       f v (suc d) h p (omega arith),
-      sum-set ms v 0 (omega arith),
+      sum_set ms v 0 (omega arith),
       marked n par R (set ms v 0)
           (length-set ms v 0 ∙ el) d (get_or par v 0) (R.inside v h) p.1 (λ w j hw q le.
-          get_or-set_other ms v w 0 0 (λ e. let z : j ≡ suc d = same-depth par j (suc d) v (subst (λ (u : ℕ). Depth par j u) e q) p in omega arith)
+          get_or-set_other ms v w 0 0 (λ e. let z : j ≡ suc d = same_depth par j (suc d) v (subst (λ (u : ℕ). Depth par j u) e q) p in omega arith)
           ∙ f w j hw q (omega arith)),
     )
 
@@ -59,9 +59,9 @@ relink par a b ha na db pb (suc d) v p = go (relink par a b ha na db pb d (get_o
     go r (no ne) =
         (suc r.0, (p.0, subst (λ (u : ℕ). Depth (set par a b) r.0 u) (sym (get_or-set_other par a v b 0 ne)) r.1))
 
-pub rooted-set : (n : ℕ) (par : List ℕ) (a b : ℕ) → Rooted n par → a < n → b < n → (a ≡ 0 → ⊥)
+pub rooted_set : (n : ℕ) (par : List ℕ) (a b : ℕ) → Rooted n par → a < n → b < n → (a ≡ 0 → ⊥)
     → ((d : ℕ) × Depth (set par a b) d b) → Rooted n (set par a b)
-rooted-set n par a b R ha hb na pb =
+rooted_set n par a b R ha hb na pb =
     record {
       room = rw length-set R.room;
       inside = λ v hv. go v hv (ℕ_discrete v a);
@@ -106,14 +106,14 @@ module _ {n : ℕ} {par : List ℕ} {a b v k : ℕ} (R : Rooted n par) (W : Walk
             ((λ q. na (sym W.here ∙ q)), (λ q. nz (sym W.here ∙ q)));
       }
 
-  pub walk-hit : v ≡ a → Met par a b true
-  walk-hit q = record { steps = k; there = W.here ∙ q; before = λ j lt. (W.past j lt).1 }
+  pub walk_hit : v ≡ a → Met par a b true
+  walk_hit q = record { steps = k; there = W.here ∙ q; before = λ j lt. (W.past j lt).1 }
 
   pub walk_end : (v ≡ a → ⊥) → v ≡ 0 → Met par a b false
   walk_end na z = record { apart = λ q. na (W.apart q); rooted = λ x. W.back x 0 z }
 
-  pub walk-over : n ≤ k → ⊥
-  walk-over le = let q = R.ends v W.inside in omega (arith, W.more q.0 q.1)
+  pub walk_over : n ≤ k → ⊥
+  walk_over le = let q = R.ends v W.inside in omega (arith, W.more q.0 q.1)
 
 -- p steps down a walk that has not ended take p off its depth
 down : (par : List ℕ) (b d p : ℕ) → Depth par d b → ((j : ℕ) → j < p → iter par j b ≡ 0 → ⊥) → (d' : ℕ) × Depth par d' (iter par p b) × (d' + p ≡ d)
@@ -132,5 +132,5 @@ pub distinct : (par : List ℕ) (b d p q : ℕ) → Depth par d b → ((j : ℕ)
 distinct par b d p q D f lt e =
     let x = down par b d p D (λ j h. f j (omega arith)) in
     let y = down par b d q D f in
-    let z : x.0 ≡ y.0 = same-depth par x.0 y.0 (iter par q b) (subst (λ (u : ℕ). Depth par x.0 u) e x.1) y.1 in
+    let z : x.0 ≡ y.0 = same_depth par x.0 y.0 (iter par q b) (subst (λ (u : ℕ). Depth par x.0 u) e x.1) y.1 in
     omega (arith, x.2, y.2)

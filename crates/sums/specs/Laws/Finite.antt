@@ -5,8 +5,8 @@ use Rattle.std.proofs.Common.{sym, subst, arith}
 use Rattle.std.proofs.Math.Decide.{dec_lt}
 use Rattle.std.specs.Float.Ieee.Fits.{and_l, and_r}
 use Rattle.std.specs.Int.Signed.{le_z}
-use Rattle.sheet.specs.Laws.Integer.{le_parts, parts-eq}
-use Rattle.sums.specs.Test.{every, implies, all_below, someBelow, sameZ}
+use Rattle.sheet.specs.Laws.Integer.{le_parts, parts_eq}
+use Rattle.sums.specs.Test.{every, implies, all_below, some_below, same_z}
 
 -- ---- each test of a list
 abbrev pub Each : List Bool → Type 0
@@ -21,26 +21,26 @@ pub implied : (b x : Bool) → T (implies b x) → b ≡ true → T x
 implied b x t e = subst (λ (a : Bool). T (implies a x)) e t
 
 -- ---- at the numbers below n
-pub all-below : (n : ℕ) (f : ℕ → Bool) → T (all_below n f) → (k : ℕ) → k < n → T (f k)
-all-below zero f t k h = absurd (omega arith)
-all-below (suc n) f t k h =
+pub all_below_lem : (n : ℕ) (f : ℕ → Bool) → T (all_below n f) → (k : ℕ) → k < n → T (f k)
+all_below_lem zero f t k h = absurd (omega arith)
+all_below_lem (suc n) f t k h =
     elim (dec_lt k n) [
-      | yes l ↦ all-below n f (and_r (f n) (all_below n f) t) k l
+      | yes l ↦ all_below_lem n f (and_r (f n) (all_below n f) t) k l
       | no l ↦ let e : n ≡ k = omega arith in subst (λ (i : ℕ). T (f i)) e (and_l (f n) (all_below n f) t)
     ]
 
-pub some_below : (n : ℕ) (f : ℕ → Bool) → T (someBelow n f) → (k : ℕ) × (k < n) × T (f k)
-some_below zero f t = absurd t
-some_below (suc n) f t = go (f n) refl t (some_below n f)
+pub some_below_lem : (n : ℕ) (f : ℕ → Bool) → T (some_below n f) → (k : ℕ) × (k < n) × T (f k)
+some_below_lem zero f t = absurd t
+some_below_lem (suc n) f t = go (f n) refl t (some_below_lem n f)
   where
-    go : (b : Bool) → f n ≡ b → T (cond b true (someBelow n f)) → (T (someBelow n f) → (k : ℕ) × (k < n) × T (f k)) → (k : ℕ) × (k < suc n) × T (f k)
+    go : (b : Bool) → f n ≡ b → T (cond b true (some_below n f)) → (T (some_below n f) → (k : ℕ) × (k < n) × T (f k)) → (k : ℕ) × (k < suc n) × T (f k)
     go true e u rest = (n, omega arith, subst T (sym e) tt)
     go false e u rest = let q = rest u in (q.0, omega (arith, q.1), q.2)
 
 -- ---- integers
-pub le-told : (x y : ℤ) → T (le_z x y) → x ≤ℤ y
-le-told x y t = record { le = t }
+pub le_told : (x y : ℤ) → T (le_z x y) → x ≤ℤ y
+le_told x y t = record { le = t }
 
-pub same-told : (x y : ℤ) → T (sameZ x y) → x ≡ y
-same-told x y t =
-    parts-eq x y (omega (arith, le_parts x y (le-told x y (and_l (le_z x y) (le_z y x) t)), le_parts y x (le-told y x (and_r (le_z x y) (le_z y x) t))))
+pub same_told : (x y : ℤ) → T (same_z x y) → x ≡ y
+same_told x y t =
+    parts_eq x y (omega (arith, le_parts x y (le_told x y (and_l (le_z x y) (le_z y x) t)), le_parts y x (le_told y x (and_r (le_z x y) (le_z y x) t))))

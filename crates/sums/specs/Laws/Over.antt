@@ -6,11 +6,11 @@ use Rattle.std.proofs.Math.Seq.{length_front}
 use Rattle.sums.specs.Lines.{over}
 
 module _ {A : Type 0} (xs l : List A) where
-  pub over-long : length xs ≤ length l → length (over xs l) ≡ length l
-  over-long h = length_front l xs (length xs) (sym (length-take-le (length xs) l h))
+  pub over_long : length xs ≤ length l → length (over xs l) ≡ length l
+  over_long h = length_front l xs (length xs) (sym (length-take-le (length xs) l h))
 
-  pub over-past : (d : A) (i : ℕ) → length xs ≤ i → get_or (over xs l) i d ≡ get_or l i d
-  over-past d i h =
+  pub over_past : (d : A) (i : ℕ) → length xs ≤ i → get_or (over xs l) i d ≡ get_or l i d
+  over_past d i h =
       let k : ℕ = i - length xs in
       let e : length xs + k ≡ i = omega arith in
       rw (← e) (get_or-append-add xs (drop (length xs) l) k d ∙ get_or-drop (length xs) l k d)

@@ -2,59 +2,59 @@
 -- Assumes nothing.
 use Rattle.std.specs.Prelude.{◌≡◌, refl, List, ℕ, ◌+◌, ◌*◌, ◌<◌, get_or, ℤ, pos, ◌-ℤ◌}
 use Rattle.std.proofs.Common.{◌∙◌, arith}
-use Rattle.sheet.specs.Core.{core_of, shape_of, blocksIn, wiresIn, registersIn, delayIn, lowerIn, upperIn}
+use Rattle.sheet.specs.Core.{core_of, shape_of, blocks_in, wires_in, registers_in, delay_in, lower_in, upper_in}
 use Rattle.sheet.specs.Laws.Integer.{up, down, minus}
-use Rattle.sheet.specs.Laws.Sheet.{upper-parts}
+use Rattle.sheet.specs.Laws.Sheet.{upper_parts}
 use Rattle.paths.specs.Table.{Best, Entry, best, none}
 use Rattle.solver.specs.System.{Given, Rule, path, wire, ceiling, Link, rule, upper}
 use Rattle.witness.specs.Stands.{Slow, Stands}
-use Rattle.witness.specs.Written.{Asked, for-upper, for-path, for-wire, for-ceiling}
+use Rattle.witness.specs.Written.{Asked, for_upper, for_path, for_wire, for_ceiling}
 
 -- the bound k of a link of the solver's is held as z + 32,768
 pub record Bound (s : List ℕ) (g : Given) (i a b k : ℕ) : Type 0 where
   pub z : ℤ
   pub asked : Asked (core_of s) g.period i a b z
-  pub z-is : up z + 32768 ≡ k + down z
+  pub z_is : up z + 32768 ≡ k + down z
 
 -- only a path rule has the number 1
-rule-slow : (g : Given) (i a b k : ℕ) → Rule g i a b k → i ≡ 1 → Slow g
-rule-slow g i a b k (path e x y l q) h = record { a = a; b = b; a_block = x; b-block = y; slow = l }
-rule-slow g i a b k (wire j l e x y q) h = absurd (omega arith)
-rule-slow g i a b k (ceiling j l e x y q) h = absurd (omega arith)
+rule_slow : (g : Given) (i a b k : ℕ) → Rule g i a b k → i ≡ 1 → Slow g
+rule_slow g i a b k (path e x y l q) h = record { a = a; b = b; a_block = x; b_block = y; slow = l }
+rule_slow g i a b k (wire j l e x y q) h = absurd (omega arith)
+rule_slow g i a b k (ceiling j l e x y q) h = absurd (omega arith)
 
-pub link-slow : (g : Given) (i a b k : ℕ) → Link g i a b k → i ≡ 1 → Slow g
-link-slow g i a b k (rule r) h = rule-slow g i a b k r h
-link-slow g i a b k (upper e x q) h = absurd (omega arith)
+pub link_slow : (g : Given) (i a b k : ℕ) → Link g i a b k → i ≡ 1 → Slow g
+link_slow g i a b k (rule r) h = rule_slow g i a b k r h
+link_slow g i a b k (upper e x q) h = absurd (omega arith)
 
 module _ (s : List ℕ) (g : Given) (h : Stands s g) where
   -- an entry with a delay above a period is a path's
-  slow-best : (a b W D p : ℕ) → Entry (shape_of s) (registersIn s) a b W D → p < D → Best (shape_of s) (registersIn s) a b W D
-  slow-best a b W D p (best x) l = x
-  slow-best a b W D p (none f x y) l = absurd (omega arith)
+  slow_best : (a b W D p : ℕ) → Entry (shape_of s) (registers_in s) a b W D → p < D → Best (shape_of s) (registers_in s) a b W D
+  slow_best a b W D p (best x) l = x
+  slow_best a b W D p (none f x y) l = absurd (omega arith)
 
-  pub rule-asked : (i a b k : ℕ) → Rule g i a b k → Bound s g i a b k
-  rule-asked i a b k (path e x y l q) =
+  pub rule_asked : (i a b k : ℕ) → Rule g i a b k → Bound s g i a b k
+  rule_asked i a b k (path e x y l q) =
       let W = get_or g.registers (a * g.n + b) 0 in
       let D = get_or g.delays (a * g.n + b) 0 in
-      let t : Entry (shape_of s) (registersIn s) a b W D = rw h.n-is (h.table (record { a = a; b = b; a_block = x; b-block = y; slow = l }) a b (omega (arith, h.n-is)) (omega (arith, h.n-is))) in
-      record { z = pos W -ℤ pos 1; asked = for-path e W D (slow-best a b W D g.period t l) l refl; z-is = omega (arith, minus (pos W) (pos 1)) }
-  rule-asked i a b k (wire j l e x y q) =
-      let l' : j < wiresIn s = omega (arith, h.m-is) in
-      record { z = pos (registersIn s j); asked = for-wire j l' e (x ∙ h.from_is j l') (y ∙ h.to_is j l') refl; z-is = omega (arith, h.wires-is j l') }
-  rule-asked i a b k (ceiling j l e x y q) =
-      let l' : j < wiresIn s = omega (arith, h.m-is) in
+      let t : Entry (shape_of s) (registers_in s) a b W D = rw h.n_is (h.table (record { a = a; b = b; a_block = x; b_block = y; slow = l }) a b (omega (arith, h.n_is)) (omega (arith, h.n_is))) in
+      record { z = pos W -ℤ pos 1; asked = for_path e W D (slow_best a b W D g.period t l) l refl; z_is = omega (arith, minus (pos W) (pos 1)) }
+  rule_asked i a b k (wire j l e x y q) =
+      let l' : j < wires_in s = omega (arith, h.m_is) in
+      record { z = pos (registers_in s j); asked = for_wire j l' e (x ∙ h.from_is j l') (y ∙ h.to_is j l') refl; z_is = omega (arith, h.wires_is j l') }
+  rule_asked i a b k (ceiling j l e x y q) =
+      let l' : j < wires_in s = omega (arith, h.m_is) in
       record {
-        z = pos ((core_of s).ceiling j) -ℤ pos (registersIn s j);
-        asked = for-ceiling j l' e (x ∙ h.to_is j l') (y ∙ h.from_is j l') refl;
-        z-is = omega (arith, h.ceilings-is j l', minus (pos ((core_of s).ceiling j)) (pos (registersIn s j)));
+        z = pos ((core_of s).ceiling j) -ℤ pos (registers_in s j);
+        asked = for_ceiling j l' e (x ∙ h.to_is j l') (y ∙ h.from_is j l') refl;
+        z_is = omega (arith, h.ceilings_is j l', minus (pos ((core_of s).ceiling j)) (pos (registers_in s j)));
       }
 
-  pub link-asked : (i a b k : ℕ) → a < g.n → Link g i a b k → Bound s g i a b k
-  link-asked i a b k l (rule r) = rule-asked i a b k r
-  link-asked i a b k l (upper e x q) =
-      let l' : a < blocksIn s = omega (arith, h.n-is) in
+  pub link_asked : (i a b k : ℕ) → a < g.n → Link g i a b k → Bound s g i a b k
+  link_asked i a b k l (rule r) = rule_asked i a b k r
+  link_asked i a b k l (upper e x q) =
+      let l' : a < blocks_in s = omega (arith, h.n_is) in
       record {
-        z = upperIn s a;
-        asked = for-upper e l' x refl;
-        z-is = omega (arith, h.upper_is a l', upper-parts a (delayIn s a) (lowerIn s a) (upperIn s a) (h.sound.formed.block a l'));
+        z = upper_in s a;
+        asked = for_upper e l' x refl;
+        z_is = omega (arith, h.upper_is a l', upper_parts a (delay_in s a) (lower_in s a) (upper_in s a) (h.sound.formed.block a l'));
       }

@@ -8,14 +8,14 @@ use Rattle.sheet.specs.Core.{Core}
 use Rattle.sheet.specs.Sheet.{Formed}
 use Rattle.sheet.specs.Laws.Integer.{up, down}
 use Rattle.paths.specs.Path.{end_of}
-use Rattle.paths.specs.Laws.Path.{joins-start-lt}
+use Rattle.paths.specs.Laws.Path.{joins_start_lt}
 use Rattle.paths.specs.Laws.Pigeons.{NotIn, NoDup, AllBelow, pigeons}
-use Rattle.loops.specs.Link.{Link, wire, path, upper, lower, ceiling, words_of, allWords, linkA, linkB, Good, Chain, NoPath}
-use Rattle.loops.specs.Laws.Chain.{chain-append, sum-snoc}
+use Rattle.loops.specs.Link.{Link, wire, path, upper, lower, ceiling, words_of, all_words, link_a, link_b, Good, Chain, NoPath}
+use Rattle.loops.specs.Laws.Chain.{chain_append, sum_snoc}
 use Rattle.loops.specs.Laws.Words.{words_append}
 use Rattle.witness.specs.Written.{LinkWritten}
 use Rattle.witness.specs.Walked.{NoneSlow, Linked}
-use Rattle.witness.specs.Laws.Sets.{sets-append}
+use Rattle.witness.specs.Laws.Sets.{sets_append}
 
 -- k rows of m, and one more
 row_more : (k k' m : ℕ) → k' ≡ k + 1 → k * m + m ≡ k' * m
@@ -23,72 +23,72 @@ row_more k k' m e = let q : k' ≡ suc k = omega arith in rw q (sym (suc-mul k m
 
 module _ (c : Core) where
   -- ---- one link more at the end
-  pub not-in-snoc : (x : ℕ) (ls : List Link) (l : Link) → NotIn x (map (linkA c) ls) → (x ≡ linkA c l → ⊥) → NotIn x (map (linkA c) (ls ++ (l ∷ [])))
-  not-in-snoc x [] l h f = (f, tt)
-  not-in-snoc x (y ∷ ls) l h f = (h.0, not-in-snoc x ls l h.1 f)
+  pub not_in_snoc : (x : ℕ) (ls : List Link) (l : Link) → NotIn x (map (link_a c) ls) → (x ≡ link_a c l → ⊥) → NotIn x (map (link_a c) (ls ++ (l ∷ [])))
+  not_in_snoc x [] l h f = (f, tt)
+  not_in_snoc x (y ∷ ls) l h f = (h.0, not_in_snoc x ls l h.1 f)
 
-  once-snoc : (ls : List Link) (l : Link) → NoDup (map (linkA c) ls) → NotIn (linkA c l) (map (linkA c) ls) → NoDup (map (linkA c) (ls ++ (l ∷ [])))
-  once-snoc [] l h f = (tt, tt)
-  once-snoc (y ∷ ls) l h f = (not-in-snoc (linkA c y) ls l h.0 (λ e. f.0 (sym e)), once-snoc ls l h.1 f.1)
+  once_snoc : (ls : List Link) (l : Link) → NoDup (map (link_a c) ls) → NotIn (link_a c l) (map (link_a c) ls) → NoDup (map (link_a c) (ls ++ (l ∷ [])))
+  once_snoc [] l h f = (tt, tt)
+  once_snoc (y ∷ ls) l h f = (not_in_snoc (link_a c y) ls l h.0 (λ e. f.0 (sym e)), once_snoc ls l h.1 f.1)
 
-  plain-snoc : (ls : List Link) (l : Link) → NoPath c ls → NoPath c (l ∷ []) → NoPath c (ls ++ (l ∷ []))
-  plain-snoc [] l h f = f
-  plain-snoc (wire j ∷ ls) l h f = plain-snoc ls l h f
-  plain-snoc (path u ws ∷ ls) l h f = absurd h
-  plain-snoc (upper b ∷ ls) l h f = plain-snoc ls l h f
-  plain-snoc (lower b ∷ ls) l h f = plain-snoc ls l h f
-  plain-snoc (ceiling j ∷ ls) l h f = plain-snoc ls l h f
+  plain_snoc : (ls : List Link) (l : Link) → NoPath c ls → NoPath c (l ∷ []) → NoPath c (ls ++ (l ∷ []))
+  plain_snoc [] l h f = f
+  plain_snoc (wire j ∷ ls) l h f = plain_snoc ls l h f
+  plain_snoc (path u ws ∷ ls) l h f = absurd h
+  plain_snoc (upper b ∷ ls) l h f = plain_snoc ls l h f
+  plain_snoc (lower b ∷ ls) l h f = plain_snoc ls l h f
+  plain_snoc (ceiling j ∷ ls) l h f = plain_snoc ls l h f
 
-  words_snoc : (ls : List Link) (l : Link) → allWords (ls ++ (l ∷ [])) ≡ allWords ls ++ words_of l
-  words_snoc ls l = words_append ls (l ∷ []) ∙ ap (λ (xs : List ℕ). allWords ls ++ xs) (append-nil (words_of l))
+  words_snoc : (ls : List Link) (l : Link) → all_words (ls ++ (l ∷ [])) ≡ all_words ls ++ words_of l
+  words_snoc ls l = words_append ls (l ∷ []) ∙ ap (λ (xs : List ℕ). all_words ls ++ xs) (append-nil (words_of l))
 
   -- ---- every a is a block
-  good-below : Formed c → (p : ℕ) (l : Link) → Good c p l → linkA c l < c.shape.n
-  good-below f p (wire j) g = f.from_block j g
-  good-below f p (path u ws) g = joins-start-lt c.shape u ws (end_of c.shape u ws) g.0
-  good-below f p (upper b) g = g
-  good-below f p (lower b) g = f.some_block
-  good-below f p (ceiling j) g = f.to_block j g
+  good_below : Formed c → (p : ℕ) (l : Link) → Good c p l → link_a c l < c.shape.n
+  good_below f p (wire j) g = f.from_block j g
+  good_below f p (path u ws) g = joins_start_lt c.shape u ws (end_of c.shape u ws) g.0
+  good_below f p (upper b) g = g
+  good_below f p (lower b) g = f.some_block
+  good_below f p (ceiling j) g = f.to_block j g
 
-  chain-below : Formed c → (p a : ℕ) (ls : List Link) (e : ℕ) → Chain c p a ls e → AllBelow c.shape.n (map (linkA c) ls)
-  chain-below f p a [] e h = tt
-  chain-below f p a (l ∷ ls) e h = (good-below f p l h.1, chain-below f p (linkB c l) ls e h.2)
+  chain_below : Formed c → (p a : ℕ) (ls : List Link) (e : ℕ) → Chain c p a ls e → AllBelow c.shape.n (map (link_a c) ls)
+  chain_below f p a [] e h = tt
+  chain_below f p a (l ∷ ls) e h = (good_below f p l h.1, chain_below f p (link_b c l) ls e h.2)
 
   -- ---- the links written
-  pub linked-none : (p start bottom : ℕ) (w : List ℕ) → Linked c p start start bottom bottom [] w w 0
-  linked-none p start bottom w = record { words_are = refl; at-is = refl; few = omega arith; chain = refl; sum = omega arith; once = tt; plain = λ _. tt }
+  pub linked_none : (p start bottom : ℕ) (w : List ℕ) → Linked c p start start bottom bottom [] w w 0
+  linked_none p start bottom w = record { words_are = refl; at_is = refl; few = omega arith; chain = refl; sum = omega arith; once = tt; plain = λ _. tt }
 
   module _ (p start v top bottom : ℕ) (ls : List Link) (w w' : List ℕ) (at : ℕ) (h : Linked c p start v top bottom ls w w' at) where
-    pub linked-next : (i b : ℕ) (z : ℤ) (w'' : List ℕ) (r top' : ℕ) (x : LinkWritten c p i v b z w' w'' at r) → top' + up z ≤ top + down z
-        → NotIn v (map (linkA c) ls) → (NoneSlow c p → i ≡ 1 → ⊥) → Linked c p start b top' bottom (ls ++ (x.link ∷ [])) w w'' r
-    linked-next i b z w'' r top' x k f q =
+    pub linked_next : (i b : ℕ) (z : ℤ) (w'' : List ℕ) (r top' : ℕ) (x : LinkWritten c p i v b z w' w'' at r) → top' + up z ≤ top + down z
+        → NotIn v (map (link_a c) ls) → (NoneSlow c p → i ≡ 1 → ⊥) → Linked c p start b top' bottom (ls ++ (x.link ∷ [])) w w'' r
+    linked_next i b z w'' r top' x k f q =
         let l = x.link in
-        let long = ap length (words_snoc ls l) ∙ length-append (allWords ls) (words_of l) in
+        let long = ap length (words_snoc ls l) ∙ length-append (all_words ls) (words_of l) in
         record {
           words_are =
               x.words_are
               ∙ ap (λ (xs : List ℕ). sets xs at (words_of l)) h.words_are
-              ∙ sets-append w (allWords ls) (words_of l) 0 at (omega (arith, h.at-is))
+              ∙ sets_append w (all_words ls) (words_of l) 0 at (omega (arith, h.at_is))
               ∙ ap (λ (xs : List ℕ). sets w 0 xs) (sym (words_snoc ls l));
-          at-is = omega (arith, x.next, h.at-is, long);
+          at_is = omega (arith, x.next, h.at_is, long);
           few = omega (arith, x.next, x.few, h.few, row_more (length ls) (length (ls ++ (l ∷ []))) (c.shape.n + 2) (length-append ls (l ∷ [])));
-          chain = chain-append c p start ls v (l ∷ []) b h.chain (x.a-is, x.good, x.b-is);
-          sum = omega (arith, h.sum, sum-snoc c p ls l, ap up x.k-is, ap down x.k-is);
-          once = once-snoc ls l h.once (rw x.a-is f);
-          plain = λ none. plain-snoc ls l (h.plain none) (x.plain (q none));
+          chain = chain_append c p start ls v (l ∷ []) b h.chain (x.a_is, x.good, x.b_is);
+          sum = omega (arith, h.sum, sum_snoc c p ls l, ap up x.k_is, ap down x.k_is);
+          once = once_snoc ls l h.once (rw x.a_is f);
+          plain = λ none. plain_snoc ls l (h.plain none) (x.plain (q none));
         }
 
     -- there is room for one more, and all have room
-    pub linked-room : Formed c → v < c.shape.n → NotIn v (map (linkA c) ls) → at + (c.shape.n + 2) ≤ c.shape.n * (c.shape.n + 2)
-    linked-room g k f =
+    pub linked_room : Formed c → v < c.shape.n → NotIn v (map (link_a c) ls) → at + (c.shape.n + 2) ≤ c.shape.n * (c.shape.n + 2)
+    linked_room g k f =
         let n = c.shape.n in
-        let few = pigeons n (v ∷ map (linkA c) ls) (f, h.once) (k, chain-below g p start ls v h.chain) in
-        let one : suc (length ls) ≤ n = omega (arith, length-map ls (linkA c)) in
+        let few = pigeons n (v ∷ map (link_a c) ls) (f, h.once) (k, chain_below g p start ls v h.chain) in
+        let one : suc (length ls) ≤ n = omega (arith, length-map ls (link_a c)) in
         omega (arith, h.few, mul-le-mul_right (n + 2) one, row_more (length ls) (suc (length ls)) (n + 2) (omega arith))
 
-    pub linked-few : Formed c → at ≤ c.shape.n * (c.shape.n + 2)
-    linked-few g =
+    pub linked_few : Formed c → at ≤ c.shape.n * (c.shape.n + 2)
+    linked_few g =
         let n = c.shape.n in
-        let few = pigeons n (map (linkA c) ls) h.once (chain-below g p start ls v h.chain) in
-        let all : length ls ≤ n = omega (arith, length-map ls (linkA c)) in
+        let few = pigeons n (map (link_a c) ls) h.once (chain_below g p start ls v h.chain) in
+        let all : length ls ≤ n = omega (arith, length-map ls (link_a c)) in
         omega (arith, h.few, mul-le-mul_right (n + 2) all)

@@ -3,112 +3,112 @@
 use Rattle.std.specs.Prelude.{◌≡◌, refl, ◌⊎◌, List, [], ◌∷◌, ◌++◌, ℕ, suc, ◌+◌, ◌*◌, ◌≤◌, ◌<◌, length, get_or, set, drop}
 use Rattle.std.proofs.Common.{sym, ap, ◌∙◌, subst, inl, inr, arith, length-append, length-drop, length-set, drop_of_length-le, drop-cons, get_or-set_same, drop-set-lt}
 use Rattle.std.proofs.Math.Decide.{ℕ_discrete}
-use Rattle.sheet.specs.Core.{Shape, wiresIn, delayIn, fromIn, registersIn, shape_of}
+use Rattle.sheet.specs.Core.{Shape, wires_in, delay_in, from_in, registers_in, shape_of}
 use Rattle.sheet.specs.Reads.{WireIs}
-use Rattle.paths.specs.Path.{Joins, registersOn, delayOn}
+use Rattle.paths.specs.Path.{Joins, registers_on, delay_on}
 use Rattle.paths.specs.Table.{LoopAt, Best, Entry, best, none}
-use Rattle.paths.specs.Laws.Path.{passes-all, joins-append, joins-start-lt, joins-end-lt, between-passes, registers-append}
+use Rattle.paths.specs.Laws.Path.{passes_all, joins_append, joins_start_lt, joins_end_lt, between_passes, registers_append}
 use Rattle.tables.specs.Back.{Completed}
-use Rattle.tables.specs.Laws.Entry.{entry-unique, fewest-short, backward}
-use Rattle.paths.specs.Laws.Parts.{row_before, square-small}
+use Rattle.tables.specs.Laws.Entry.{entry_unique, fewest_short, backward}
+use Rattle.paths.specs.Laws.Parts.{row_before, square_small}
 use Rattle.witness.specs.Trace.{Tabled, Based, NoneBefore, Bare, Apart, Traced, Suffix, Tracing}
 
 -- an entry of a table of n blocks is inside 4,096
 pub entry_in : (n u v : ℕ) → n ≤ 64 → u < n → v < n → u * n + v < 4096
-entry_in n u v h k l = omega (arith, row_before n u n k, square-small n h)
+entry_in n u v h k l = omega (arith, row_before n u n k, square_small n h)
 
 module _ (s : Shape) (w : ℕ → ℕ) where
-  pub entry-best : (u v W D : ℕ) → Entry s w u v W D → W < 4294967295 → Best s w u v W D
-  entry-best u v W D (best b) h = b
-  entry-best u v W D (none f p q) h = absurd (omega arith)
+  pub entry_best : (u v W D : ℕ) → Entry s w u v W D → W < 4294967295 → Best s w u v W D
+  entry_best u v W D (best b) h = b
+  entry_best u v W D (none f p q) h = absurd (omega arith)
 
   module _ (free : (b : ℕ) → LoopAt s w b → ⊥) (u v W D : ℕ) where
     -- a path with these numbers is short
-    path-short : Best s w u v W D → (ws : List ℕ) → Joins s u ws v → registersOn w ws ≡ W → length ws < s.n
-    path-short b ws h e = fewest-short s w free u v ws h (λ xs k. omega (arith, b.fewest xs k))
+    path_short : Best s w u v W D → (ws : List ℕ) → Joins s u ws v → registers_on w ws ≡ W → length ws < s.n
+    path_short b ws h e = fewest_short s w free u v ws h (λ xs k. omega (arith, b.fewest xs k))
 
     module _ (b Wb Db : ℕ) (ws : List ℕ) (h : Suffix s w u v W D b Wb Db ws) where
-      pub suffix-short : length ws < s.n
-      suffix-short =
+      pub suffix_short : length ws < s.n
+      suffix_short =
           let xs = h.front.way.wires in
-          let k = joins-append s u xs b ws v h.front.way.joins h.joins (between-passes s xs b ws (passes-all s b)) in
+          let k = joins_append s u xs b ws v h.front.way.joins h.joins (between_passes s xs b ws (passes_all s b)) in
           omega (
             arith,
             length-append xs ws,
-            path-short h.whole (xs ++ ws) k (omega (arith, registers-append w xs ws, h.front.way.registers-is, h.registers-is)),
+            path_short h.whole (xs ++ ws) k (omega (arith, registers_append w xs ws, h.front.way.registers_is, h.registers_is)),
           )
 
       module _ (j : ℕ) (c : Completed s w u b Wb Db j) where
-        from_in : ((s.from j ≡ u) × (c.registers ≡ 0) × (c.delay ≡ s.delay u)) ⊎ ((s.from j ≡ u → ⊥) × Best s w u (s.from j) c.registers c.delay) → s.from j < s.n
-        from_in (inl q) = rw q.0 (joins-start-lt s u h.front.way.wires b h.front.way.joins)
-        from_in (inr q) = joins-end-lt s u q.1.way.wires (s.from j) q.1.way.joins
+        from_within : ((s.from j ≡ u) × (c.registers ≡ 0) × (c.delay ≡ s.delay u)) ⊎ ((s.from j ≡ u → ⊥) × Best s w u (s.from j) c.registers c.delay) → s.from j < s.n
+        from_within (inl q) = rw q.0 (joins_start_lt s u h.front.way.wires b h.front.way.joins)
+        from_within (inr q) = joins_end_lt s u q.1.way.wires (s.from j) q.1.way.joins
 
-        joins-before : Joins s (s.from j) (j ∷ ws) v
-        joins-before = (from_in c.base, c.wire-lt, refl, between-passes s (j ∷ []) (s.to j) ws (passes-all s (s.to j)), rw c.end h.joins)
+        joins_before : Joins s (s.from j) (j ∷ ws) v
+        joins_before = (from_within c.base, c.wire_lt, refl, between_passes s (j ∷ []) (s.to j) ws (passes_all s (s.to j)), rw c.end h.joins)
 
-        delay-before : delayOn s (s.to j) ws ≡ delayOn s b ws
-        delay-before = ap (λ (x : ℕ). delayOn s x ws) c.end
+        delay_before : delay_on s (s.to j) ws ≡ delay_on s b ws
+        delay_before = ap (λ (x : ℕ). delay_on s x ws) c.end
 
-        pub suffix-next : (W' D' : ℕ) → (s.from j ≡ u → ⊥) → Entry s w u (s.from j) W' D' → Suffix s w u v W D (s.from j) W' D' (j ∷ ws)
-        suffix-next W' D' f e = go c.base
+        pub suffix_next : (W' D' : ℕ) → (s.from j ≡ u → ⊥) → Entry s w u (s.from j) W' D' → Suffix s w u v W D (s.from j) W' D' (j ∷ ws)
+        suffix_next W' D' f e = go c.base
           where
             go : ((s.from j ≡ u) × (c.registers ≡ 0) × (c.delay ≡ s.delay u)) ⊎ ((s.from j ≡ u → ⊥) × Best s w u (s.from j) c.registers c.delay) → Suffix s w u v W D (s.from j) W' D' (j ∷ ws)
             go (inl q) = absurd (f q.0)
             go (inr q) =
-                let same = entry-unique s w u (s.from j) W' D' c.registers c.delay e (best q.1) in
+                let same = entry_unique s w u (s.from j) W' D' c.registers c.delay e (best q.1) in
                 record {
                   whole = h.whole;
                   front = rw (same.0, same.1) q.1;
-                  joins = joins-before;
-                  registers-is = omega (arith, same.0, c.registers-is, h.registers-is);
-                  delay-is = omega (arith, same.1, c.delay-is, h.delay-is, delay-before);
+                  joins = joins_before;
+                  registers_is = omega (arith, same.0, c.registers_is, h.registers_is);
+                  delay_is = omega (arith, same.1, c.delay_is, h.delay_is, delay_before);
                 }
 
-        pub suffix-ends : s.from j ≡ u → Traced s w u v W D (j ∷ ws)
-        suffix-ends e = go c.base
+        pub suffix_ends : s.from j ≡ u → Traced s w u v W D (j ∷ ws)
+        suffix_ends e = go c.base
           where
             go : ((s.from j ≡ u) × (c.registers ≡ 0) × (c.delay ≡ s.delay u)) ⊎ ((s.from j ≡ u → ⊥) × Best s w u (s.from j) c.registers c.delay) → Traced s w u v W D (j ∷ ws)
             go (inr q) = absurd (q.0 e)
             go (inl q) =
-                let k : Joins s u (j ∷ ws) v = subst (λ (x : ℕ). Joins s x (j ∷ ws) v) e joins-before in
-                let r : registersOn w (j ∷ ws) ≡ W = omega (arith, q.1, c.registers-is, h.registers-is) in
+                let k : Joins s u (j ∷ ws) v = subst (λ (x : ℕ). Joins s x (j ∷ ws) v) e joins_before in
+                let r : registers_on w (j ∷ ws) ≡ W = omega (arith, q.1, c.registers_is, h.registers_is) in
                 record {
                   joins = k;
-                  registers-is = r;
-                  delay-is = omega (arith, q.2, c.delay-is, h.delay-is, delay-before);
-                  short = path-short h.whole (j ∷ ws) k r;
+                  registers_is = r;
+                  delay_is = omega (arith, q.2, c.delay_is, h.delay_is, delay_before);
+                  short = path_short h.whole (j ∷ ws) k r;
                 }
 
   -- ---- a search for the first wire that completes
-  pub search-start : (u v W D : ℕ) → NoneBefore s w u v W D 0
-  search-start u v W D i c = omega arith
+  pub search_start : (u v W D : ℕ) → NoneBefore s w u v W D 0
+  search_start u v W D i c = omega arith
 
   module _ (u v W D j : ℕ) (h : NoneBefore s w u v W D j) where
-    pub search-on : (Completed s w u v W D j → ⊥) → NoneBefore s w u v W D (j + 1)
-    search-on bad i c = elim (ℕ_discrete j i) [ yes e ↦ absurd (bad (rw e c)) | no e ↦ omega (arith, h i c) ]
+    pub search_on : (Completed s w u v W D j → ⊥) → NoneBefore s w u v W D (j + 1)
+    search_on bad i c = elim (ℕ_discrete j i) [ yes e ↦ absurd (bad (rw e c)) | no e ↦ omega (arith, h i c) ]
 
-    pub search-short : (free : (b : ℕ) → LoopAt s w b → ⊥) → Best s w u v W D → Apart s w u v W D → j < s.m
-    search-short free b far = let q = backward s w free u v W D b far in omega (arith, h q.0 q.1, q.1.wire-lt)
+    pub search_short : (free : (b : ℕ) → LoopAt s w b → ⊥) → Best s w u v W D → Apart s w u v W D → j < s.m
+    search_short free b far = let q = backward s w free u v W D b far in omega (arith, h q.0 q.1, q.1.wire_lt)
 
 -- ---- on a sheet, by the numbers that code holds
 module _ (s : List ℕ) (n : ℕ) (registers delays : List ℕ) (t : Tabled s n registers delays) where
-  pub entry_of : (u v : ℕ) → u < n → v < n → Entry (shape_of s) (registersIn s) u v (get_or registers (u * n + v) 0) (get_or delays (u * n + v) 0)
-  entry_of u v k l = rw t.n-is (t.table u v (omega (arith, t.n-is)) (omega (arith, t.n-is)))
+  pub entry_of : (u v : ℕ) → u < n → v < n → Entry (shape_of s) (registers_in s) u v (get_or registers (u * n + v) 0) (get_or delays (u * n + v) 0)
+  entry_of u v k l = rw t.n_is (t.table u v (omega (arith, t.n_is)) (omega (arith, t.n_is)))
 
-  pub best_of : (u v : ℕ) → u < n → v < n → get_or registers (u * n + v) 0 < 4294967295 → Best (shape_of s) (registersIn s) u v (get_or registers (u * n + v) 0) (get_or delays (u * n + v) 0)
-  best_of u v k l h = entry-best (shape_of s) (registersIn s) u v _ _ (entry_of u v k l) h
+  pub best_of : (u v : ℕ) → u < n → v < n → get_or registers (u * n + v) 0 < 4294967295 → Best (shape_of s) (registers_in s) u v (get_or registers (u * n + v) 0) (get_or delays (u * n + v) 0)
+  best_of u v k l h = entry_best (shape_of s) (registers_in s) u v _ _ (entry_of u v k l) h
 
   -- ---- the wires found, in path order
   module _ (u v : ℕ) (k : u < n) (l : v < n) where
-    pub bare-traced : (wires : List ℕ) → length wires ≡ 64 → Bare (shape_of s) (registersIn s) u v (get_or registers (u * n + v) 0) (get_or delays (u * n + v) 0)
-        → Traced (shape_of s) (registersIn s) u v (get_or registers (u * n + v) 0) (get_or delays (u * n + v) 0) (drop 64 wires)
-    bare-traced wires e h =
+    pub bare_traced : (wires : List ℕ) → length wires ≡ 64 → Bare (shape_of s) (registers_in s) u v (get_or registers (u * n + v) 0) (get_or delays (u * n + v) 0)
+        → Traced (shape_of s) (registers_in s) u v (get_or registers (u * n + v) 0) (get_or delays (u * n + v) 0) (drop 64 wires)
+    bare_traced wires e h =
         rw (drop_of_length-le wires {i = 64} (omega arith))
-        (record { joins = (omega (arith, t.n-is), sym h.0); registers-is = sym h.1; delay-is = sym h.2; short = omega (arith, t.n-is) })
+        (record { joins = (omega (arith, t.n_is), sym h.0); registers_is = sym h.1; delay_is = sym h.2; short = omega (arith, t.n_is) })
 
-    pub tracing-start : (wires : List ℕ) → length wires ≡ 64 → get_or registers (u * n + v) 0 < 4294967295 → Apart (shape_of s) (registersIn s) u v (get_or registers (u * n + v) 0) (get_or delays (u * n + v) 0)
+    pub tracing_start : (wires : List ℕ) → length wires ≡ 64 → get_or registers (u * n + v) 0 < 4294967295 → Apart (shape_of s) (registers_in s) u v (get_or registers (u * n + v) 0) (get_or delays (u * n + v) 0)
         → Tracing s n registers delays u v v 64 wires
-    tracing-start wires e small far =
+    tracing_start wires e small far =
         let b = best_of u v k l small in
         record {
           inside = l;
@@ -117,22 +117,22 @@ module _ (s : List ℕ) (n : ℕ) (registers delays : List ℕ) (t : Tabled s n 
           apart = far;
           suffix =
               rw (drop_of_length-le wires {i = 64} (omega arith))
-              (record { whole = b; front = b; joins = (omega (arith, t.n-is), refl); registers-is = omega arith; delay-is = omega arith });
+              (record { whole = b; front = b; joins = (omega (arith, t.n_is), refl); registers_is = omega arith; delay_is = omega arith });
         }
 
     module _ (b at : ℕ) (wires : List ℕ) (h : Tracing s n registers delays u v b at wires) where
-      pub tracing-room : 0 < at
-      tracing-room =
+      pub tracing_room : 0 < at
+      tracing_room =
           omega (
             arith,
             h.place,
             h.long,
-            t.sound.formed.framed.few-blocks,
+            t.sound.formed.framed.few_blocks,
             length-drop at wires,
-            suffix-short (shape_of s) (registersIn s) t.sound.free u v _ _ b _ _ (drop at wires) h.suffix,
+            suffix_short (shape_of s) (registers_in s) t.sound.free u v _ _ b _ _ (drop at wires) h.suffix,
           )
 
-      module _ (j : ℕ) (c : Completed (shape_of s) (registersIn s) u b (get_or registers (u * n + b) 0) (get_or delays (u * n + b) 0) j) (at' : ℕ) (e : at' + 1 ≡ at) where
+      module _ (j : ℕ) (c : Completed (shape_of s) (registers_in s) u b (get_or registers (u * n + b) 0) (get_or delays (u * n + b) 0) j) (at' : ℕ) (e : at' + 1 ≡ at) where
         stored : drop at' (set wires at' j) ≡ j ∷ drop at wires
         stored =
             let i : at' < length wires = omega (arith, h.place, h.long) in
@@ -142,63 +142,63 @@ module _ (s : List ℕ) (n : ℕ) (registers delays : List ℕ) (t : Tabled s n 
             ∙ ap (λ (xs : List ℕ). j ∷ xs) (drop-set-lt (suc at') wires at' j (omega arith))
             ∙ ap (λ (x : ℕ). j ∷ drop x wires) q
 
-        module _ (b' : ℕ) (q : b' ≡ fromIn s j) where
-          pub tracing-next : b' < n → (b' ≡ u → ⊥) → Tracing s n registers delays u v b' at' (set wires at' j)
-          tracing-next i f = record {
+        module _ (b' : ℕ) (q : b' ≡ from_in s j) where
+          pub tracing_next : b' < n → (b' ≡ u → ⊥) → Tracing s n registers delays u v b' at' (set wires at' j)
+          tracing_next i f = record {
             inside = i;
             place = omega (arith, h.place);
             long = length-set wires at' j ∙ h.long;
             apart = λ z. f z.0;
             suffix =
                 rw (stored, q)
-                (suffix-next (shape_of s) (registersIn s) t.sound.free u v _ _ b _ _ (drop at wires) h.suffix j c _ _ (λ z. f (q ∙ z)) (entry_of u (fromIn s j) k (rw q at i)));
+                (suffix_next (shape_of s) (registers_in s) t.sound.free u v _ _ b _ _ (drop at wires) h.suffix j c _ _ (λ z. f (q ∙ z)) (entry_of u (from_in s j) k (rw q at i)));
           }
 
-          pub tracing-end : b' ≡ u → Traced (shape_of s) (registersIn s) u v (get_or registers (u * n + v) 0) (get_or delays (u * n + v) 0) (drop at' (set wires at' j))
-          tracing-end z = rw stored (suffix-ends (shape_of s) (registersIn s) t.sound.free u v _ _ b _ _ (drop at wires) h.suffix j c (sym q ∙ z))
+          pub tracing_end : b' ≡ u → Traced (shape_of s) (registers_in s) u v (get_or registers (u * n + v) 0) (get_or delays (u * n + v) 0) (drop at' (set wires at' j))
+          tracing_end z = rw stored (suffix_ends (shape_of s) (registers_in s) t.sound.free u v _ _ b _ _ (drop at wires) h.suffix j c (sym q ∙ z))
 
   module _ (u v W D j : ℕ) (f t' w : ℕ) (x : WireIs s j f t' w) where
-    pub other-end : (t' ≡ v → ⊥) → Completed (shape_of s) (registersIn s) u v W D j → ⊥
-    other-end bad c = bad (x.to_is ∙ c.end)
+    pub other_end : (t' ≡ v → ⊥) → Completed (shape_of s) (registers_in s) u v W D j → ⊥
+    other_end bad c = bad (x.to_is ∙ c.end)
 
     module _ (k : u < n) where
-      from-entry : Entry (shape_of s) (registersIn s) u f (get_or registers (u * n + f) 0) (get_or delays (u * n + f) 0)
-      from-entry = entry_of u f k (omega (arith, x.from_block, t.n-is))
+      from_entry : Entry (shape_of s) (registers_in s) u f (get_or registers (u * n + f) 0) (get_or delays (u * n + f) 0)
+      from_entry = entry_of u f k (omega (arith, x.from_block, t.n_is))
 
       -- what stands at the wire's start, by its numbers
       module _ (bw : ℕ) (hw : Based 0 u f (get_or registers (u * n + f) 0) bw) where
-        start-registers : (W' D' : ℕ) → ((fromIn s j ≡ u) × (W' ≡ 0) × (D' ≡ delayIn s u)) ⊎ ((fromIn s j ≡ u → ⊥) × Best (shape_of s) (registersIn s) u (fromIn s j) W' D') → W' ≡ bw
-        start-registers W' D' (inl q) = q.1 ∙ sym (hw.0 (x.from_is ∙ q.0))
-        start-registers W' D' (inr q) =
-            (entry-unique (shape_of s) (registersIn s) u f W' D' _ _ (best (rw x.from_is q.1)) from-entry).0 ∙ sym (hw.1 (λ z. q.0 (sym x.from_is ∙ z)))
+        start_registers : (W' D' : ℕ) → ((from_in s j ≡ u) × (W' ≡ 0) × (D' ≡ delay_in s u)) ⊎ ((from_in s j ≡ u → ⊥) × Best (shape_of s) (registers_in s) u (from_in s j) W' D') → W' ≡ bw
+        start_registers W' D' (inl q) = q.1 ∙ sym (hw.0 (x.from_is ∙ q.0))
+        start_registers W' D' (inr q) =
+            (entry_unique (shape_of s) (registers_in s) u f W' D' _ _ (best (rw x.from_is q.1)) from_entry).0 ∙ sym (hw.1 (λ z. q.0 (sym x.from_is ∙ z)))
 
-        pub other-registers : (W' : ℕ) → W' ≡ W → (W' ≡ bw + w → ⊥) → Completed (shape_of s) (registersIn s) u v W D j → ⊥
-        other-registers W' e bad c = bad (omega (arith, c.registers-is, start-registers c.registers c.delay c.base, x.registers-is))
+        pub other_registers : (W' : ℕ) → W' ≡ W → (W' ≡ bw + w → ⊥) → Completed (shape_of s) (registers_in s) u v W D j → ⊥
+        other_registers W' e bad c = bad (omega (arith, c.registers_is, start_registers c.registers c.delay c.base, x.registers_is))
 
-        module _ (bd : ℕ) (hd : Based (delayIn s u) u f (get_or delays (u * n + f) 0) bd) where
-          start-delay : (W' D' : ℕ) → ((fromIn s j ≡ u) × (W' ≡ 0) × (D' ≡ delayIn s u)) ⊎ ((fromIn s j ≡ u → ⊥) × Best (shape_of s) (registersIn s) u (fromIn s j) W' D') → D' ≡ bd
-          start-delay W' D' (inl q) = q.2 ∙ sym (hd.0 (x.from_is ∙ q.0))
-          start-delay W' D' (inr q) =
-              (entry-unique (shape_of s) (registersIn s) u f W' D' _ _ (best (rw x.from_is q.1)) from-entry).1 ∙ sym (hd.1 (λ z. q.0 (sym x.from_is ∙ z)))
+        module _ (bd : ℕ) (hd : Based (delay_in s u) u f (get_or delays (u * n + f) 0) bd) where
+          start_delay : (W' D' : ℕ) → ((from_in s j ≡ u) × (W' ≡ 0) × (D' ≡ delay_in s u)) ⊎ ((from_in s j ≡ u → ⊥) × Best (shape_of s) (registers_in s) u (from_in s j) W' D') → D' ≡ bd
+          start_delay W' D' (inl q) = q.2 ∙ sym (hd.0 (x.from_is ∙ q.0))
+          start_delay W' D' (inr q) =
+              (entry_unique (shape_of s) (registers_in s) u f W' D' _ _ (best (rw x.from_is q.1)) from_entry).1 ∙ sym (hd.1 (λ z. q.0 (sym x.from_is ∙ z)))
 
-          pub other-delay : (D' d : ℕ) → D' ≡ D → d ≡ delayIn s v → (D' ≡ bd + d → ⊥) → Completed (shape_of s) (registersIn s) u v W D j → ⊥
-          other-delay D' d e z bad c = bad (omega (arith, c.delay-is, start-delay c.registers c.delay c.base))
+          pub other_delay : (D' d : ℕ) → D' ≡ D → d ≡ delay_in s v → (D' ≡ bd + d → ⊥) → Completed (shape_of s) (registers_in s) u v W D j → ⊥
+          other_delay D' d e z bad c = bad (omega (arith, c.delay_is, start_delay c.registers c.delay c.base))
 
-          pub right-wire : (W' D' d : ℕ) → W' ≡ W → D' ≡ D → d ≡ delayIn s v → W < 4294967295 → j < wiresIn s → t' ≡ v → W' ≡ bw + w → D' ≡ bd + d
-              → Completed (shape_of s) (registersIn s) u v W D j
-          right-wire W' D' d x₁ x₂ z small l e p q = record {
+          pub right_wire : (W' D' d : ℕ) → W' ≡ W → D' ≡ D → d ≡ delay_in s v → W < 4294967295 → j < wires_in s → t' ≡ v → W' ≡ bw + w → D' ≡ bd + d
+              → Completed (shape_of s) (registers_in s) u v W D j
+          right_wire W' D' d x₁ x₂ z small l e p q = record {
             registers = bw;
             delay = bd;
-            wire-lt = l;
+            wire_lt = l;
             end = sym x.to_is ∙ e;
-            registers-is = omega (arith, x.registers-is);
-            delay-is = omega arith;
+            registers_is = omega (arith, x.registers_is);
+            delay_is = omega arith;
             base = go (ℕ_discrete f u);
           }
             where
-              go : Dec (f ≡ u) → ((fromIn s j ≡ u) × (bw ≡ 0) × (bd ≡ delayIn s u)) ⊎ ((fromIn s j ≡ u → ⊥) × Best (shape_of s) (registersIn s) u (fromIn s j) bw bd)
+              go : Dec (f ≡ u) → ((from_in s j ≡ u) × (bw ≡ 0) × (bd ≡ delay_in s u)) ⊎ ((from_in s j ≡ u → ⊥) × Best (shape_of s) (registers_in s) u (from_in s j) bw bd)
               go (yes y) = inl (sym x.from_is ∙ y, hw.0 y, hd.0 y)
               go (no y) =
-                  let b = entry-best (shape_of s) (registersIn s) u f _ _ from-entry (omega (arith, hw.1 y)) in
-                  let b' : Best (shape_of s) (registersIn s) u f bw bd = rw (hw.1 y, hd.1 y) b in
-                  inr (λ i. y (x.from_is ∙ i), subst (λ (z : ℕ). Best (shape_of s) (registersIn s) u z bw bd) x.from_is b')
+                  let b = entry_best (shape_of s) (registers_in s) u f _ _ from_entry (omega (arith, hw.1 y)) in
+                  let b' : Best (shape_of s) (registers_in s) u f bw bd = rw (hw.1 y, hd.1 y) b in
+                  inr (λ i. y (x.from_is ∙ i), subst (λ (z : ℕ). Best (shape_of s) (registers_in s) u z bw bd) x.from_is b')

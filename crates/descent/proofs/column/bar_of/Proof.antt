@@ -1,6 +1,6 @@
 use native.Mathlib.Omega.{arith}
 use mathlib.Core.Path.{refl}
-use Rattle.descent.specs.Laws.Column.{key-small}
+use Rattle.descent.specs.Laws.Column.{key_small}
 use borrow.Author.Rules.{rules}
 use Rattle.descent.proofs.column.bar_of.Statement.{statement}
 use Rattle.descent.proofs.column.bar_of.Tie as tie
@@ -18,13 +18,13 @@ element-copy-out-result : tie.Need-element-copy-out-result
 element-copy-out-result c = search rules
 
 add-result-2 : tie.Need-overflow-add-result-2
-add-result-2 c = omega (arith, key-small c.before.requires.0 c.before.requires.1, c.before.requires.0.table.c-small)
+add-result-2 c = omega (arith, key_small c.before.requires.0 c.before.requires.1, c.before.requires.0.table.c_small)
 
 add-result-3 : tie.Need-overflow-add-result-3
-add-result-3 c = omega (arith, key-small c.before.requires.0 c.before.requires.1, c.before.requires.0.table.c-small, c.before.requires.0.lag-small)
+add-result-3 c = omega (arith, key_small c.before.requires.0 c.before.requires.1, c.before.requires.0.table.c_small, c.before.requires.0.lag_small)
 
 returns : tie.Need-returns
-returns c = (refl, omega (arith, c.before.requires.0.some-lag), omega (arith, key-small c.before.requires.0 c.before.requires.1, c.before.requires.0.table.c-small, c.before.requires.0.lag-small))
+returns c = (refl, omega (arith, c.before.requires.0.some_lag), omega (arith, key_small c.before.requires.0 c.before.requires.1, c.before.requires.0.table.c_small, c.before.requires.0.lag_small))
 
 pub bar-of-spec : {M : Type 1} → statement M
 bar-of-spec =

@@ -2,7 +2,7 @@ use native.Mathlib.Omega.{arith}
 use mathlib.Core.Logic.{⊎_elim}
 use Prim.Native.Nat.{◌≤◌, ◌-◌}
 use Rattle.descent.specs.State.{Counted}
-use Rattle.descent.specs.Laws.Column.{tally-start, tally-more, tally-same, tally-end}
+use Rattle.descent.specs.Laws.Column.{tally_start, tally_more, tally_same, tally_end}
 use Rattle.descent.proofs.column.falls.Statement.{statement}
 use Rattle.descent.proofs.column.falls.Tie as tie
 
@@ -13,7 +13,7 @@ abbrev decreases-loop : tie.decreases-loop
 decreases-loop keys c v ev e count₀ u₀ count u = 64 - u
 
 loop-holds : tie.Need-loop-init invariant-loop decreases-loop
-loop-holds c = (omega arith, tally-start _ _)
+loop-holds c = (omega arith, tally_start _ _)
 
 bar-of-requires : tie.Need-bar-of-requires invariant-loop decreases-loop
 bar-of-requires c κs = (c.before.before.requires.0, omega arith)
@@ -34,10 +34,10 @@ loop-less : tie.Need-loop-smaller invariant-loop decreases-loop
 loop-less c = omega arith
 
 loop-again : tie.Need-loop-preserved invariant-loop decreases-loop
-loop-again c = (omega arith, ⊎_elim (λ w. rw w.1 (tally-more c.before.before.before.before.loop.invariant.1 (omega (arith, c.before.before.bar-of.ensures)))) (λ w. rw w.1 (tally-same c.before.before.before.before.loop.invariant.1 (omega (arith, c.before.before.bar-of.ensures)))) c.if1.branch)
+loop-again c = (omega arith, ⊎_elim (λ w. rw w.1 (tally_more c.before.before.before.before.loop.invariant.1 (omega (arith, c.before.before.bar-of.ensures)))) (λ w. rw w.1 (tally_same c.before.before.before.before.loop.invariant.1 (omega (arith, c.before.before.bar-of.ensures)))) c.if1.branch)
 
 returns : tie.Need-returns invariant-loop decreases-loop
-returns c = tally-end c.before.loop.invariant.1 (omega arith) c.before.loop.invariant.0
+returns c = tally_end c.before.loop.invariant.1 (omega arith) c.before.loop.invariant.0
 
 pub falls-spec : {M : Type 1} → statement M
 falls-spec =

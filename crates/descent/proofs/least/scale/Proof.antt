@@ -1,7 +1,7 @@
 use native.Mathlib.Omega.{arith}
 use Prim.Native.Nat.{◌≤◌, ◌-◌}
 use Rattle.descent.specs.Least.{Scaled}
-use Rattle.descent.specs.Laws.Reach.{lag-small, scale-start, scale-more, scale-end}
+use Rattle.descent.specs.Laws.Reach.{lag_small, scale_start, scale_more, scale_end}
 use Rattle.descent.proofs.least.scale.Statement.{statement}
 use Rattle.descent.proofs.least.scale.Tie as tie
 
@@ -12,7 +12,7 @@ abbrev decreases-loop : tie.decreases-loop
 decreases-loop e scaled₀ u₀ scaled u = 64 - u
 
 loop-holds : tie.Need-loop-init invariant-loop decreases-loop
-loop-holds c = (omega arith, scale-start _ _ c.requires.1)
+loop-holds c = (omega arith, scale_start _ _ c.requires.1)
 
 mul-scaled : tie.Need-overflow-mul-scaled invariant-loop decreases-loop
 mul-scaled c = omega arith
@@ -21,13 +21,13 @@ element-copy-out-scaled : tie.Need-element-copy-out-scaled invariant-loop decrea
 element-copy-out-scaled c = omega (arith, c.before.before.requires.0.long)
 
 sub-scaled : tie.Need-overflow-sub-scaled invariant-loop decreases-loop
-sub-scaled c = omega (arith, lag-small c.before.before.before.requires.0 c.before.loop-test.true)
+sub-scaled c = omega (arith, lag_small c.before.before.before.requires.0 c.before.loop-test.true)
 
 mul-scaled-2 : tie.Need-overflow-mul-scaled-2 invariant-loop decreases-loop
-mul-scaled-2 c = omega (arith, lag-small c.before.before.before.requires.0 c.before.loop-test.true)
+mul-scaled-2 c = omega (arith, lag_small c.before.before.before.requires.0 c.before.loop-test.true)
 
 add-scaled : tie.Need-overflow-add-scaled invariant-loop decreases-loop
-add-scaled c = omega (arith, lag-small c.before.before.before.requires.0 c.before.loop-test.true)
+add-scaled c = omega (arith, lag_small c.before.before.before.requires.0 c.before.loop-test.true)
 
 mul-scaled-3 : tie.Need-overflow-mul-scaled-3 invariant-loop decreases-loop
 mul-scaled-3 c = omega arith
@@ -42,10 +42,10 @@ loop-less : tie.Need-loop-smaller invariant-loop decreases-loop
 loop-less c = omega arith
 
 loop-again : tie.Need-loop-preserved invariant-loop decreases-loop
-loop-again c = (omega arith, scale-more _ c.before.before.loop.invariant.1 c.before.loop-test.true (omega (arith, lag-small c.before.before.before.requires.0 c.before.loop-test.true)))
+loop-again c = (omega arith, scale_more _ c.before.before.loop.invariant.1 c.before.loop-test.true (omega (arith, lag_small c.before.before.before.requires.0 c.before.loop-test.true)))
 
 returns : tie.Need-returns invariant-loop decreases-loop
-returns c = scale-end c.before.loop.invariant.1 (omega arith) c.before.loop.invariant.0
+returns c = scale_end c.before.loop.invariant.1 (omega arith) c.before.loop.invariant.0
 
 pub scale-spec : {M : Type 1} → statement M
 scale-spec =

@@ -1,7 +1,7 @@
 use native.Mathlib.Omega.{arith}
 use Prim.Native.Nat.{◌≤◌, ◌-◌}
 use Rattle.descent.specs.State.{Rounded}
-use Rattle.descent.specs.Laws.Round.{round-start, round-going, round-more, round-stop, round-end}
+use Rattle.descent.specs.Laws.Round.{round_start, round_going, round_more, round_stop, round_end}
 use Rattle.descent.proofs.settle.round.Statement.{statement}
 use Rattle.descent.proofs.settle.round.Tie as tie
 
@@ -12,13 +12,13 @@ abbrev decreases-loop : tie.decreases-loop
 decreases-loop keys c lower upper limit e₀ links₀ seen₀ v₀ e links seen v = 64 - v
 
 loop-holds : tie.Need-loop-init invariant-loop decreases-loop
-loop-holds c = (omega arith, round-start c.requires.0)
+loop-holds c = (omega arith, round_start c.requires.0)
 
 step-requires : tie.Need-step-requires invariant-loop decreases-loop
-step-requires c κs = (round-going c.before.before.before.before.loop.invariant.1, omega arith, c.before.before.before.before.before.requires.1)
+step-requires c κs = (round_going c.before.before.before.before.loop.invariant.1, omega arith, c.before.before.before.before.before.requires.1)
 
 returns : tie.Need-returns invariant-loop decreases-loop
-returns c = round-stop c.before.before.before.before.before.before.loop.invariant.1 c.before.step.ensures c.if1.true
+returns c = round_stop c.before.before.before.before.before.before.loop.invariant.1 c.before.step.ensures c.if1.true
 
 add-v : tie.Need-overflow-add-v invariant-loop decreases-loop
 add-v c = omega arith
@@ -27,10 +27,10 @@ loop-less : tie.Need-loop-smaller invariant-loop decreases-loop
 loop-less c = omega arith
 
 loop-again : tie.Need-loop-preserved invariant-loop decreases-loop
-loop-again c = (omega arith, round-more c.before.before.before.before.before.before.loop.invariant.1 c.before.step.ensures c.if1.false)
+loop-again c = (omega arith, round_more c.before.before.before.before.before.before.loop.invariant.1 c.before.step.ensures c.if1.false)
 
 returns-2 : tie.Need-returns-2 invariant-loop decreases-loop
-returns-2 c = round-end c.before.loop.invariant.1 (omega arith) c.before.loop.invariant.0
+returns-2 c = round_end c.before.loop.invariant.1 (omega arith) c.before.loop.invariant.0
 
 pub round-spec : {M : Type 1} → statement M
 round-spec =

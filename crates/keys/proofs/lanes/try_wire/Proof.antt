@@ -5,7 +5,7 @@ use mathlib.Core.Path.{◌≡◌}
 use mathlib.Core.Logic.{⊎_elim}
 use lib.ListN.{length}
 use Rattle.keys.specs.Filling.{Lanes}
-use Rattle.keys.specs.Laws.Lanes.{lanes-none, lane_room, lanes-lower, lanes_keep}
+use Rattle.keys.specs.Laws.Lanes.{lanes_none, lane_room, lanes_lower, lanes_keep}
 use Rattle.keys.proofs.lanes.try_wire.Statement.{statement}
 use Rattle.keys.proofs.lanes.try_wire.Tie as tie
 
@@ -16,7 +16,7 @@ abbrev decreases-loop : tie.decreases-loop
 decreases-loop keys₀ f t plus minus changed₀ s₀ keys changed s = 64 - s
 
 loop-holds : tie.Need-loop-init invariant-loop decreases-loop
-loop-holds c = (omega arith, c.requires.0.long, lanes-none _ _ _ _ _ c.requires.0.long)
+loop-holds c = (omega arith, c.requires.0.long, lanes_none _ _ _ _ _ c.requires.0.long)
 
 mul-x : tie.Need-overflow-mul-x invariant-loop decreases-loop
 mul-x c = omega arith
@@ -71,7 +71,7 @@ loop-less c = omega arith
 
 loop-again : tie.Need-loop-preserved invariant-loop decreases-loop
 loop-again c = let L = c.before.before.before.before.loop.invariant.2 in
-    let A = ⊎_elim (λ w. lanes-lower L c.before.before.before.before.before.requires.1 c.before.before.before.before.before.requires.2 c.before.before.before.loop-test.true c.before.before.before.before.before.requires.0 c.before.before.before.before.before.requires.4 c.if1.new c.if1.changed w.2 w.1 w.0.taken) (λ w. lanes_keep L c.before.before.before.before.before.requires.1 c.before.before.before.before.before.requires.2 c.before.before.before.loop-test.true c.before.before.before.before.before.requires.0 c.before.before.before.before.before.requires.4 c.if1.new c.if1.changed w.2 w.1 w.0.left) c.if1.branch in
+    let A = ⊎_elim (λ w. lanes_lower L c.before.before.before.before.before.requires.1 c.before.before.before.before.before.requires.2 c.before.before.before.loop-test.true c.before.before.before.before.before.requires.0 c.before.before.before.before.before.requires.4 c.if1.new c.if1.changed w.2 w.1 w.0.taken) (λ w. lanes_keep L c.before.before.before.before.before.requires.1 c.before.before.before.before.before.requires.2 c.before.before.before.loop-test.true c.before.before.before.before.before.requires.0 c.before.before.before.before.before.requires.4 c.if1.new c.if1.changed w.2 w.1 w.0.left) c.if1.branch in
     (omega arith, A.long, A)
 
 returns : tie.Need-returns invariant-loop decreases-loop

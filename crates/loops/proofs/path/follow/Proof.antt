@@ -5,7 +5,7 @@ use Prim.Native.Nat.{◌≤◌, ◌-◌}
 use lib.ListN.{drop}
 use Rattle.sheet.specs.Laws.Sheet.{block_read, block_refused}
 use Rattle.loops.specs.Reads.{Followed}
-use Rattle.loops.specs.Laws.Follow.{step-read, step-refused, start-out, follow-start, follow-end, words-stuck, words_step}
+use Rattle.loops.specs.Laws.Follow.{step_read, step_refused, start_out, follow_start, follow_end, words_stuck, words_step}
 use Rattle.loops.proofs.path.follow.Statement.{statement}
 use Rattle.loops.proofs.path.follow.Tie as tie
 
@@ -16,7 +16,7 @@ abbrev decreases-loop : tie.decreases-loop
 decreases-loop s n m words from start count first here₀ registers₀ delay₀ i₀ here registers delay i = count - i
 
 returns : tie.Need-returns invariant-loop decreases-loop
-returns c = start-out c.before.before.before.args.s.now (drop c.before.before.before.args.from c.before.before.before.args.words.now) c.before.before.before.args.start c.before.before.before.args.count (omega arith)
+returns c = start_out c.before.before.before.args.s.now (drop c.before.before.before.args.from c.before.before.before.args.words.now) c.before.before.before.args.start c.before.before.before.args.count (omega arith)
 
 read-block-requires : tie.Need-read-block-requires invariant-loop decreases-loop
 read-block-requires c κs = search rules
@@ -31,7 +31,7 @@ returns-2 : tie.Need-returns-2 invariant-loop decreases-loop
 returns-2 c = absurd (block_refused c.before.before.before.before.before.before.args.s.now c.before.before.before.before.before.before.args.start c.before.before.read-block.result _ c.before.before.read-block.ensures c.enum_told.given.1 (c.before.before.before.before.before.before.requires.0.block c.before.before.before.before.before.before.args.start (omega arith)))
 
 loop-holds : tie.Need-loop-init invariant-loop decreases-loop
-loop-holds c = (omega arith, follow-start c.before.before.before.before.before.before.before.args.s.now _ _ _ _ _ (omega arith) (block_read c.before.before.before.before.before.before.before.args.s.now c.before.before.before.before.before.before.before.args.start c.before.before.before.read-block.result _ _ _ c.before.before.before.read-block.ensures c.before.first.given.1).0)
+loop-holds c = (omega arith, follow_start c.before.before.before.before.before.before.before.args.s.now _ _ _ _ _ (omega arith) (block_read c.before.before.before.before.before.before.before.args.s.now c.before.before.before.before.before.before.before.args.start c.before.before.before.read-block.result _ _ _ c.before.before.before.read-block.ensures c.before.first.given.1).0)
 
 add-word-at : tie.Need-overflow-add-word-at invariant-loop decreases-loop
 add-word-at c = search rules
@@ -49,14 +49,14 @@ enum-told-2 : tie.Need-enum-told-2 invariant-loop decreases-loop
 enum-told-2 c = search rules
 
 returns-3 : tie.Need-returns-3 invariant-loop decreases-loop
-returns-3 c = words-stuck c.before.before.before.before.before.before.before.before.before.before.before.before.before.args.s.now c.before.before.before.before.before.before.before.before.before.before.before.before.before.args.words.now _ _ _ c.before.before.before.before.before.before.before.before.before.before.before.before.before.requires.3 _ _ _ _ _ c.before.before.before.before.before.loop.invariant.1 c.before.before.before.before.loop-test.true c.before.before.before.word_at.ensures.0 (step-refused c.before.before.before.before.before.before.before.before.before.before.before.before.before.args.s.now _ _ c.before.before.lead.result c.before.before.lead.ensures c.enum-told2.given.1)
+returns-3 c = words_stuck c.before.before.before.before.before.before.before.before.before.before.before.before.before.args.s.now c.before.before.before.before.before.before.before.before.before.before.before.before.before.args.words.now _ _ _ c.before.before.before.before.before.before.before.before.before.before.before.before.before.requires.3 _ _ _ _ _ c.before.before.before.before.before.loop.invariant.1 c.before.before.before.before.loop-test.true c.before.before.before.word_at.ensures.0 (step_refused c.before.before.before.before.before.before.before.before.before.before.before.before.before.args.s.now _ _ c.before.before.lead.result c.before.before.lead.ensures c.enum-told2.given.1)
 
 add-registers : tie.Need-overflow-add-registers invariant-loop decreases-loop
-add-registers c = let g = step-read c.before.before.before.before.before.before.before.before.before.before.before.before.before.before.args.s.now _ _ c.before.before.before.lead.result _ _ _ c.before.before.before.lead.ensures c.before.to.given.1 in
+add-registers c = let g = step_read c.before.before.before.before.before.before.before.before.before.before.before.before.before.before.args.s.now _ _ c.before.before.before.lead.result _ _ _ c.before.before.before.lead.ensures c.before.to.given.1 in
     omega (arith, g.few, c.before.before.before.before.before.before.before.before.before.before.before.before.before.before.requires.3, c.before.before.before.before.before.before.loop.invariant.1.few)
 
 add-delay : tie.Need-overflow-add-delay invariant-loop decreases-loop
-add-delay c = let g = step-read c.before.before.before.before.before.before.before.before.before.before.before.before.before.before.args.s.now _ _ c.before.before.before.lead.result _ _ _ c.before.before.before.lead.ensures c.before.to.given.1 in
+add-delay c = let g = step_read c.before.before.before.before.before.before.before.before.before.before.before.before.before.before.args.s.now _ _ c.before.before.before.lead.result _ _ _ c.before.before.before.lead.ensures c.before.to.given.1 in
     omega (arith, g.short, c.before.before.before.before.before.before.before.before.before.before.before.before.before.before.requires.3, c.before.before.before.before.before.before.loop.invariant.1.short)
 
 add-i : tie.Need-overflow-add-i invariant-loop decreases-loop
@@ -66,10 +66,10 @@ loop-less : tie.Need-loop-smaller invariant-loop decreases-loop
 loop-less c = search rules
 
 loop-again : tie.Need-loop-preserved invariant-loop decreases-loop
-loop-again c = (omega arith, words_step c.before.before.before.before.before.before.before.before.before.before.before.before.before.before.args.s.now c.before.before.before.before.before.before.before.before.before.before.before.before.before.before.args.words.now _ _ _ c.before.before.before.before.before.before.before.before.before.before.before.before.before.before.requires.3 _ _ _ _ _ c.before.before.before.before.before.before.loop.invariant.1 c.before.before.before.before.before.loop-test.true c.before.before.before.before.word_at.ensures.0 _ _ _ (step-read c.before.before.before.before.before.before.before.before.before.before.before.before.before.before.args.s.now _ _ c.before.before.before.lead.result _ _ _ c.before.before.before.lead.ensures c.before.to.given.1))
+loop-again c = (omega arith, words_step c.before.before.before.before.before.before.before.before.before.before.before.before.before.before.args.s.now c.before.before.before.before.before.before.before.before.before.before.before.before.before.before.args.words.now _ _ _ c.before.before.before.before.before.before.before.before.before.before.before.before.before.before.requires.3 _ _ _ _ _ c.before.before.before.before.before.before.loop.invariant.1 c.before.before.before.before.before.loop-test.true c.before.before.before.before.word_at.ensures.0 _ _ _ (step_read c.before.before.before.before.before.before.before.before.before.before.before.before.before.before.args.s.now _ _ c.before.before.before.lead.result _ _ _ c.before.before.before.lead.ensures c.before.to.given.1))
 
 returns-4 : tie.Need-returns-4 invariant-loop decreases-loop
-returns-4 c = follow-end c.before.before.before.before.before.before.before.before.before.args.s.now _ _ _ _ _ _ c.before.loop.invariant.1 _ (omega arith)
+returns-4 c = follow_end c.before.before.before.before.before.before.before.before.before.args.s.now _ _ _ _ _ _ c.before.loop.invariant.1 _ (omega arith)
 
 pub follow-spec : {M : Type 1} → statement M
 follow-spec =

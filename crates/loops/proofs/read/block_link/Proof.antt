@@ -1,7 +1,7 @@
 -- The block's entry decides; a formed sheet refuses none in range.
 use native.Mathlib.Omega.{arith}
 use Rattle.sheet.specs.Laws.Sheet.{block_read, block_refused}
-use Rattle.loops.specs.Laws.Links.{block_out, upper-good, lower-good}
+use Rattle.loops.specs.Laws.Links.{block_out, upper_good, lower_good}
 use borrow.Author.Rules.{rules}
 use Rattle.loops.proofs.read.block_link.Statement.{statement}
 use Rattle.loops.proofs.read.block_link.Tie as tie
@@ -26,7 +26,7 @@ add-next c = search rules
 
 returns-3 : tie.Need-returns-3
 returns-3 c = let r = block_read c.before.before.before.before.before.before.before.args.s.now c.before.before.before.before.before.before.before.args.b c.before.before.before.before.read-block.result _ _ _ c.before.before.before.before.read-block.ensures c.before.before.lower.given.1 in
-    upper-good c.before.before.before.before.before.before.before.args.s.now _ _ _ _ _ _ r.0 r.1 (omega arith) c.if2.true
+    upper_good c.before.before.before.before.before.before.before.args.s.now _ _ _ _ _ _ r.0 r.1 (omega arith) c.if2.true
 
 sub-t13 : tie.Need-overflow-sub-t13
 sub-t13 c = let r = block_read c.before.before.before.before.before.before.before.args.s.now c.before.before.before.before.before.before.before.args.b c.before.before.before.before.read-block.result _ _ _ c.before.before.before.before.read-block.ensures c.before.before.lower.given.1 in
@@ -34,7 +34,7 @@ sub-t13 c = let r = block_read c.before.before.before.before.before.before.befor
 
 returns-4 : tie.Need-returns-4
 returns-4 c = let r = block_read c.before.before.before.before.before.before.before.args.s.now c.before.before.before.before.before.before.before.args.b c.before.before.before.before.read-block.result _ _ _ c.before.before.before.before.read-block.ensures c.before.before.lower.given.1 in
-    lower-good c.before.before.before.before.before.before.before.args.s.now _ _ _ _ _ _ r.0 r.1 (omega arith) c.if2.false
+    lower_good c.before.before.before.before.before.before.before.args.s.now _ _ _ _ _ _ r.0 r.1 (omega arith) c.if2.false
 
 pub block-link-spec : {M : Type 1} → statement M
 block-link-spec =

@@ -1,8 +1,8 @@
 -- The move rule on excess numbers, which permitted lags keep from wrapping.
 use native.Mathlib.Omega.{arith}
-use Rattle.sheet.specs.Laws.Sheet.{wire-read, wire-refused}
-use Rattle.moves.specs.Lags.{lagsIn}
-use Rattle.moves.specs.Laws.Writing.{enough, registers-moved}
+use Rattle.sheet.specs.Laws.Sheet.{wire_read, wire_refused}
+use Rattle.moves.specs.Lags.{lags_in}
+use Rattle.moves.specs.Laws.Writing.{enough, registers_moved}
 use borrow.Author.Rules.{rules}
 use Rattle.moves.proofs.write.moved_registers.Statement.{statement}
 use Rattle.moves.proofs.write.moved_registers.Tie as tie
@@ -17,22 +17,22 @@ enum_told : tie.Need-enum-told
 enum_told c = search rules
 
 returns : tie.Need-returns
-returns c = absurd (wire-refused c.before.before.before.before.args.s.now c.before.before.before.before.args.j c.before.before.read-wire.result _ c.before.before.read-wire.ensures c.enum_told.given.1 (c.before.before.before.before.requires.0.wire c.before.before.before.before.args.j c.before.before.before.before.requires.3))
+returns c = absurd (wire_refused c.before.before.before.before.args.s.now c.before.before.before.before.args.j c.before.before.read-wire.result _ c.before.before.read-wire.ensures c.enum_told.given.1 (c.before.before.before.before.requires.0.wire c.before.before.before.before.args.j c.before.before.before.before.requires.3))
 
 lag-at-requires : tie.Need-lag-at-requires
-lag-at-requires c κs = let q = wire-read c.before.before.before.before.before.args.s.now c.before.before.before.before.before.args.j c.before.before.before.read-wire.result _ _ _ c.before.before.before.read-wire.ensures c.before.f.given.1 in omega (arith, q.0, c.before.before.before.before.before.requires)
+lag-at-requires c κs = let q = wire_read c.before.before.before.before.before.args.s.now c.before.before.before.before.before.args.j c.before.before.before.read-wire.result _ _ _ c.before.before.before.read-wire.ensures c.before.f.given.1 in omega (arith, q.0, c.before.before.before.before.before.requires)
 
 add-result : tie.Need-overflow-add-result
-add-result c = let q = wire-read c.before.before.before.before.before.before.args.s.now c.before.before.before.before.before.before.args.j c.before.before.before.before.read-wire.result _ _ _ c.before.before.before.before.read-wire.ensures c.before.before.f.given.1 in omega (arith, q.0, c.lag-at.ensures)
+add-result c = let q = wire_read c.before.before.before.before.before.before.args.s.now c.before.before.before.before.before.before.args.j c.before.before.before.before.read-wire.result _ _ _ c.before.before.before.before.read-wire.ensures c.before.before.f.given.1 in omega (arith, q.0, c.lag-at.ensures)
 
 lag-at-requires-2 : tie.Need-lag-at-requires-2
-lag-at-requires-2 c κs = let q = wire-read c.before.before.before.before.before.before.args.s.now c.before.before.before.before.before.before.args.j c.before.before.before.before.read-wire.result _ _ _ c.before.before.before.before.read-wire.ensures c.before.before.f.given.1 in omega (arith, q.0, c.before.before.before.before.before.before.requires)
+lag-at-requires-2 c κs = let q = wire_read c.before.before.before.before.before.before.args.s.now c.before.before.before.before.before.before.args.j c.before.before.before.before.read-wire.result _ _ _ c.before.before.before.before.read-wire.ensures c.before.before.f.given.1 in omega (arith, q.0, c.before.before.before.before.before.before.requires)
 
 sub-result : tie.Need-overflow-sub-result
-sub-result c = let q = wire-read c.before.before.before.before.before.before.before.args.s.now c.before.before.before.before.before.before.before.args.j c.before.before.before.before.before.read-wire.result _ _ _ c.before.before.before.before.before.read-wire.ensures c.before.before.before.f.given.1 in enough c.before.before.before.before.before.before.before.args.s.now c.before.before.before.before.before.before.before.requires.0 (lagsIn c.before.before.before.before.before.before.before.args.lags.now) c.before.before.before.before.before.before.before.requires.4 c.before.before.before.before.before.before.before.args.j _ _ _ _ _ c.before.before.before.before.before.before.before.requires.3 q.0 c.lag-at2.ensures c.before.lag-at.ensures
+sub-result c = let q = wire_read c.before.before.before.before.before.before.before.args.s.now c.before.before.before.before.before.before.before.args.j c.before.before.before.before.before.read-wire.result _ _ _ c.before.before.before.before.before.read-wire.ensures c.before.before.before.f.given.1 in enough c.before.before.before.before.before.before.before.args.s.now c.before.before.before.before.before.before.before.requires.0 (lags_in c.before.before.before.before.before.before.before.args.lags.now) c.before.before.before.before.before.before.before.requires.4 c.before.before.before.before.before.before.before.args.j _ _ _ _ _ c.before.before.before.before.before.before.before.requires.3 q.0 c.lag-at2.ensures c.before.lag-at.ensures
 
 returns-2 : tie.Need-returns-2
-returns-2 c = let q = wire-read c.before.before.before.before.before.before.before.args.s.now c.before.before.before.before.before.before.before.args.j c.before.before.before.before.before.read-wire.result _ _ _ c.before.before.before.before.before.read-wire.ensures c.before.before.before.f.given.1 in registers-moved c.before.before.before.before.before.before.before.args.s.now c.before.before.before.before.before.before.before.requires.0 (lagsIn c.before.before.before.before.before.before.before.args.lags.now) c.before.before.before.before.before.before.before.requires.4 c.before.before.before.before.before.before.before.args.j _ _ _ _ _ c.before.before.before.before.before.before.before.requires.3 q.0 c.lag-at2.ensures c.before.lag-at.ensures
+returns-2 c = let q = wire_read c.before.before.before.before.before.before.before.args.s.now c.before.before.before.before.before.before.before.args.j c.before.before.before.before.before.read-wire.result _ _ _ c.before.before.before.before.before.read-wire.ensures c.before.before.before.f.given.1 in registers_moved c.before.before.before.before.before.before.before.args.s.now c.before.before.before.before.before.before.before.requires.0 (lags_in c.before.before.before.before.before.before.before.args.lags.now) c.before.before.before.before.before.before.before.requires.4 c.before.before.before.before.before.before.before.args.j _ _ _ _ _ c.before.before.before.before.before.before.before.requires.3 q.0 c.lag-at2.ensures c.before.lag-at.ensures
 
 pub moved-registers-spec : {M : Type 1} → statement M
 moved-registers-spec =

@@ -4,14 +4,14 @@ use native.Mathlib.Omega.{arith}
 use Prim.Native.Nat.{◌≤◌, ◌-◌}
 use mathlib.Core.Path.{◌≡◌, refl, sym, ◌∙◌}
 use lib.ListN.{length}
-use Rattle.moves.specs.Lags.{lagsIn}
-use Rattle.moves.specs.Write.{puts, registersFrom, movedRegisters}
-use Rattle.moves.specs.Laws.Writing.{puts_none, puts-turn, puts-done}
+use Rattle.moves.specs.Lags.{lags_in}
+use Rattle.moves.specs.Write.{puts, registers_from, moved_registers}
+use Rattle.moves.specs.Laws.Writing.{puts_none, puts_turn, puts_done}
 use Rattle.moves.proofs.write.put_registers.Statement.{statement}
 use Rattle.moves.proofs.write.put_registers.Tie as tie
 
 abbrev invariant-loop : tie.invariant-loop
-invariant-loop s n m lags moved₀ j₀ moved j = (j ≤ m) × (length moved ≡ length moved₀) × (moved ≡ puts (registersFrom n) (movedRegisters s (lagsIn lags)) j moved₀)
+invariant-loop s n m lags moved₀ j₀ moved j = (j ≤ m) × (length moved ≡ length moved₀) × (moved ≡ puts (registers_from n) (moved_registers s (lags_in lags)) j moved₀)
 
 abbrev decreases-loop : tie.decreases-loop
 decreases-loop s n m lags moved₀ j₀ moved j = m - j
@@ -44,13 +44,13 @@ loop-less : tie.Need-loop-smaller invariant-loop decreases-loop
 loop-less c = search rules
 
 loop-again : tie.Need-loop-preserved invariant-loop decreases-loop
-loop-again c = (search rules, c.before.before.put-u16.auto.0 ∙ c.before.before.before.before.before.before.loop.invariant.1, puts-turn _ _ _ _ _ _ _ _ c.before.before.before.before.before.before.loop.invariant.2 refl c.before.before.before.moved-registers.ensures.is c.before.before.put-u16.ensures)
+loop-again c = (search rules, c.before.before.put-u16.auto.0 ∙ c.before.before.before.before.before.before.loop.invariant.1, puts_turn _ _ _ _ _ _ _ _ c.before.before.before.before.before.before.loop.invariant.2 refl c.before.before.before.moved-registers.ensures.is c.before.before.put-u16.ensures)
 
 same_length : tie.Need-same-length invariant-loop decreases-loop
 same_length c = search rules
 
 returns : tie.Need-returns invariant-loop decreases-loop
-returns c = puts-done _ _ _ _ _ _ c.before.loop.invariant.2 (omega arith) (omega arith)
+returns c = puts_done _ _ _ _ _ _ c.before.loop.invariant.2 (omega arith) (omega arith)
 
 pub put-registers-spec : {M : Type 1} → statement M
 put-registers-spec =

@@ -1,6 +1,6 @@
 -- An end is below n, so that it fits.
 use native.Mathlib.Omega.{arith}
-use Rattle.sheet.specs.Laws.Sheet.{wire-read}
+use Rattle.sheet.specs.Laws.Sheet.{wire_read}
 use borrow.Author.Rules.{rules}
 use Rattle.note.proofs.lines.wire_line.Statement.{statement}
 use Rattle.note.proofs.lines.wire_line.Tie as tie
@@ -42,13 +42,13 @@ next-number-requires : tie.Need-next-number-requires
 next-number-requires c κs = search rules
 
 cast-next-number-2 : tie.Need-overflow-cast-next-number-2
-cast-next-number-2 c = omega (arith, (wire-read c.before.before.before.before.before.before.before.before.before.before.before.before.before.before.before.before.before.before.before.args.sheet.now c.before.before.before.before.before.before.before.before.before.before.before.before.before.before.before.before.before.before.before.args.j c.before.before.before.before.before.before.before.before.before.before.before.before.before.before.before.before.read-wire.result _ _ _ c.before.before.before.before.before.before.before.before.before.before.before.before.before.before.before.before.read-wire.ensures c.before.before.before.before.before.before.before.before.before.before.before.before.before.before.from.given.1).0.from_block)
+cast-next-number-2 c = omega (arith, (wire_read c.before.before.before.before.before.before.before.before.before.before.before.before.before.before.before.before.before.before.before.args.sheet.now c.before.before.before.before.before.before.before.before.before.before.before.before.before.before.before.before.before.before.before.args.j c.before.before.before.before.before.before.before.before.before.before.before.before.before.before.before.before.read-wire.result _ _ _ c.before.before.before.before.before.before.before.before.before.before.before.before.before.before.before.before.read-wire.ensures c.before.before.before.before.before.before.before.before.before.before.before.before.before.before.from.given.1).0.from_block)
 
 next-number-requires-2 : tie.Need-next-number-requires-2
 next-number-requires-2 c κs = search rules
 
 cast-next-number-3 : tie.Need-overflow-cast-next-number-3
-cast-next-number-3 c = omega (arith, (wire-read c.before.before.before.before.before.before.before.before.before.before.before.before.before.before.before.before.before.before.before.before.before.before.args.sheet.now c.before.before.before.before.before.before.before.before.before.before.before.before.before.before.before.before.before.before.before.before.before.before.args.j c.before.before.before.before.before.before.before.before.before.before.before.before.before.before.before.before.before.before.before.read-wire.result _ _ _ c.before.before.before.before.before.before.before.before.before.before.before.before.before.before.before.before.before.before.before.read-wire.ensures c.before.before.before.before.before.before.before.before.before.before.before.before.before.before.before.before.before.from.given.1).0.to_block)
+cast-next-number-3 c = omega (arith, (wire_read c.before.before.before.before.before.before.before.before.before.before.before.before.before.before.before.before.before.before.before.before.before.before.args.sheet.now c.before.before.before.before.before.before.before.before.before.before.before.before.before.before.before.before.before.before.before.before.before.before.args.j c.before.before.before.before.before.before.before.before.before.before.before.before.before.before.before.before.before.before.before.read-wire.result _ _ _ c.before.before.before.before.before.before.before.before.before.before.before.before.before.before.before.before.before.before.before.read-wire.ensures c.before.before.before.before.before.before.before.before.before.before.before.before.before.before.before.before.before.from.given.1).0.to_block)
 
 next-number-requires-3 : tie.Need-next-number-requires-3
 next-number-requires-3 c κs = search rules

@@ -7,7 +7,7 @@ use Prim.Native.Nat.{◌≤◌, ◌-◌}
 use lib.ListN.{length}
 use Rattle.paths.specs.Lists.{held}
 use Rattle.paths.specs.Rise.{Listed}
-use Rattle.paths.specs.Laws.Rise.{listed-none, listed_free, listed-held}
+use Rattle.paths.specs.Laws.Rise.{listed_none, listed_free, listed_held}
 use Rattle.paths.proofs.rise.free_wires.Statement.{statement}
 use Rattle.paths.proofs.rise.free_wires.Tie as tie
 
@@ -18,7 +18,7 @@ abbrev decreases-loop : tie.decreases-loop
 decreases-loop m registers list₀ k₀ j₀ list k j = m - j
 
 loop-holds : tie.Need-loop-init invariant-loop decreases-loop
-loop-holds c = (search rules, search rules, c.requires.2, listed-none _ _ c.requires.2)
+loop-holds c = (search rules, search rules, c.requires.2, listed_none _ _ c.requires.2)
 
 mul-list : tie.Need-overflow-mul-list invariant-loop decreases-loop
 mul-list c = search rules
@@ -44,7 +44,7 @@ loop-less c = search rules
 loop-again : tie.Need-loop-preserved invariant-loop decreases-loop
 loop-again c = ⊎_elim
     (λ w. rw w.1 (search rules, omega arith, search rules, listed_free _ _ _ _ c.before.before.before.loop.invariant.3 (omega arith) w.0.taken))
-    (λ w. rw w.1 (search rules, omega arith, search rules, listed-held _ _ _ _ c.before.before.before.loop.invariant.3 (omega arith) w.0.left))
+    (λ w. rw w.1 (search rules, omega arith, search rules, listed_held _ _ _ _ c.before.before.before.loop.invariant.3 (omega arith) w.0.left))
     c.if1.branch
 
 returns : tie.Need-returns invariant-loop decreases-loop

@@ -5,7 +5,7 @@ use mathlib.Core.Path.{◌≡◌}
 use Prim.Native.Nat.{ℕ, ◌≤◌, ◌<◌, ◌-◌}
 use lib.ListN.{length, get_or, length-set}
 use borrow.Author.Count.{below_none}
-use Rattle.paths.specs.Laws.Rise.{listed-turned, turned-next}
+use Rattle.paths.specs.Laws.Rise.{listed_turned, turned_next}
 use Rattle.paths.proofs.rise.turned.Statement.{statement}
 use Rattle.paths.proofs.rise.turned.Tie as tie
 
@@ -43,10 +43,10 @@ loop-less : tie.Need-loop-smaller invariant-loop decreases-loop
 loop-less c = search rules
 
 loop-again : tie.Need-loop-preserved invariant-loop decreases-loop
-loop-again c = (search rules, simp length-set c.before.before.loop.invariant.1, turned-next c.before.before.before.args.k c.before.before.loop.i c.before.before.before.args.list.now c.before.before.loop.back (omega (arith, c.before.before.before.requires.2.few, c.before.before.loop.invariant.1)) c.before.before.loop.invariant.2)
+loop-again c = (search rules, simp length-set c.before.before.loop.invariant.1, turned_next c.before.before.before.args.k c.before.before.loop.i c.before.before.before.args.list.now c.before.before.loop.back (omega (arith, c.before.before.before.requires.2.few, c.before.before.loop.invariant.1)) c.before.before.loop.invariant.2)
 
 returns : tie.Need-returns invariant-loop decreases-loop
-returns c = listed-turned _ _ _ _ _ c.before.before.requires.2 c.before.loop.invariant.1 (λ x h. c.before.loop.invariant.2 x (omega arith))
+returns c = listed_turned _ _ _ _ _ c.before.before.requires.2 c.before.loop.invariant.1 (λ x h. c.before.loop.invariant.2 x (omega arith))
 
 pub turned-spec : {M : Type 1} → statement M
 turned-spec =

@@ -1,7 +1,7 @@
 -- Lags at rest are what was asked for; where a period has none, neither has a shorter one.
 use native.Mathlib.Omega.{arith}
 use mathlib.Core.Path.{refl}
-use Rattle.periods.specs.Laws.Quick.{begins, settled_at, settled-none}
+use Rattle.periods.specs.Laws.Quick.{begins, settled_at, settled_none}
 use borrow.Author.Rules.{rules}
 use Rattle.periods.proofs.quick.sought.Statement.{statement}
 use Rattle.periods.proofs.quick.sought.Tie as tie
@@ -25,10 +25,10 @@ settle-requires-2 : tie.Need-settle-requires-2
 settle-requires-2 c κs = (1048575, begins _ c.before.before.before.before.requires.0 c.before.before.before.before.requires.1, omega arith, omega arith, refl)
 
 returns-2 : tie.Need-returns-2
-returns-2 c = rw c.before.before.before.before.enum_told.given.1 (settled-none (c.before.settle2.ensures 1048575 (begins _ c.before.before.before.before.before.before.requires.0 c.before.before.before.before.before.before.requires.1) (omega arith)) (omega arith))
+returns-2 c = rw c.before.before.before.before.enum_told.given.1 (settled_none (c.before.settle2.ensures 1048575 (begins _ c.before.before.before.before.before.before.requires.0 c.before.before.before.before.before.before.requires.1) (omega arith)) (omega arith))
 
 least-requires : tie.Need-least-requires
-least-requires c κs = let S = c.before.before.before.settle2.ensures 1048575 (begins _ c.before.before.before.before.before.before.before.before.requires.0 c.before.before.before.before.before.before.before.before.requires.1) (omega arith) in (1048575, S.rest (omega arith), omega arith, S.links-long)
+least-requires c κs = let S = c.before.before.before.settle2.ensures 1048575 (begins _ c.before.before.before.before.before.before.before.before.requires.0 c.before.before.before.before.before.before.before.before.requires.1) (omega arith) in (1048575, S.rest (omega arith), omega arith, S.links_long)
 
 returns-3 : tie.Need-returns-3
 returns-3 c = rw c.before.before.before.before.before.before.aim.given.1 (settled_at _ (c.before.settle.ensures c.before.before.before.before.shorter.result (begins _ c.before.before.before.before.before.before.before.before.requires.0 c.before.before.before.before.before.before.before.before.requires.1) (omega arith)) c.before.before.before.before.shorter.ensures (omega arith))

@@ -4,13 +4,13 @@ use native.Mathlib.Omega.{arith}
 use mathlib.Core.Path.{◌≡◌}
 use Prim.Native.Nat.{ℕ, ◌*◌, ◌-◌, ◌<◌, ◌≤◌}
 use lib.ListN.{length, get_or}
-use Rattle.sheet.specs.Bytes.{u16At}
+use Rattle.sheet.specs.Bytes.{u16_at}
 use Rattle.records.specs.Laws.Lent.{marked_step}
 use Rattle.records.proofs.given.words.Statement.{statement}
 use Rattle.records.proofs.given.words.Tie as tie
 
 abbrev invariant-loop : tie.invariant-loop
-invariant-loop more list₀ i₀ i-end list i = (i ≤ i-end) × (length list ≡ length list₀) × ((k : ℕ) → k < i → get_or list k 0 ≡ u16At more (2 * k))
+invariant-loop more list₀ i₀ i-end list i = (i ≤ i-end) × (length list ≡ length list₀) × ((k : ℕ) → k < i → get_or list k 0 ≡ u16_at more (2 * k))
 
 abbrev decreases-loop : tie.decreases-loop
 decreases-loop more list₀ i₀ i-end list i = i-end - i
@@ -40,7 +40,7 @@ loop-less : tie.Need-loop-smaller invariant-loop decreases-loop
 loop-less c = search rules
 
 loop-again : tie.Need-loop-preserved invariant-loop decreases-loop
-loop-again c = (omega arith, search rules, marked_step 0 (λ k. u16At c.before.before.before.before.args.more.now (2 * k)) c.before.before.loop.list c.before.before.loop.i c.u16-at.result (omega arith) c.u16-at.ensures.0 c.before.before.loop.invariant.2)
+loop-again c = (omega arith, search rules, marked_step 0 (λ k. u16_at c.before.before.before.before.args.more.now (2 * k)) c.before.before.loop.list c.before.before.loop.i c.u16-at.result (omega arith) c.u16-at.ensures.0 c.before.before.loop.invariant.2)
 
 returns : tie.Need-returns invariant-loop decreases-loop
 returns c = (omega arith, λ k h. c.before.loop.invariant.2 k (omega arith))

@@ -4,13 +4,13 @@ use native.Mathlib.Omega.{arith}
 use mathlib.Core.Path.{◌≡◌}
 use Prim.Native.Nat.{ℕ, ◌-◌, ◌<◌, ◌≤◌}
 use lib.ListN.{get_or}
-use Rattle.records.specs.Lent.{entryBefore}
+use Rattle.records.specs.Lent.{entry_before}
 use Rattle.records.specs.Laws.Lent.{kept_step}
 use Rattle.records.proofs.lent.kept.Statement.{statement}
 use Rattle.records.proofs.lent.kept.Tie as tie
 
 abbrev invariant-loop : tie.invariant-loop
-invariant-loop list first i₀ i = (first ≤ i) × ((k : ℕ) → first ≤ k → k < i → get_or list k 0 ≡ entryBefore k)
+invariant-loop list first i₀ i = (first ≤ i) × ((k : ℕ) → first ≤ k → k < i → get_or list k 0 ≡ entry_before k)
 
 abbrev decreases-loop : tie.decreases-loop
 decreases-loop list first i₀ i = 4300 - i
@@ -37,7 +37,7 @@ loop-less : tie.Need-loop-smaller invariant-loop decreases-loop
 loop-less c = search rules
 
 loop-again : tie.Need-loop-preserved invariant-loop decreases-loop
-loop-again c = (omega arith, kept_step entryBefore c.before.before.before.before.before.args.list.now c.before.before.before.before.before.args.first c.before.before.before.before.loop.i c.before.before.before.before.loop.invariant.1 (omega arith))
+loop-again c = (omega arith, kept_step entry_before c.before.before.before.before.before.args.list.now c.before.before.before.before.before.args.first c.before.before.before.before.loop.i c.before.before.before.before.loop.invariant.1 (omega arith))
 
 returns-2 : tie.Need-returns-2 invariant-loop decreases-loop
 returns-2 c = λ k f h. c.before.loop.invariant.1 k f (omega arith)

@@ -4,13 +4,13 @@ use native.Mathlib.Omega.{arith}
 use mathlib.Core.Path.{◌≡◌}
 use Prim.Native.Nat.{ℕ, ◌-◌, ◌<◌, ◌≤◌}
 use lib.ListN.{get_or}
-use Rattle.records.specs.Lent.{byteBefore}
+use Rattle.records.specs.Lent.{byte_before}
 use Rattle.records.specs.Laws.Lent.{kept_step}
 use Rattle.records.proofs.lent.kept_bytes.Statement.{statement}
 use Rattle.records.proofs.lent.kept_bytes.Tie as tie
 
 abbrev invariant-loop : tie.invariant-loop
-invariant-loop list start i₀ i = (start ≤ i) × ((k : ℕ) → start ≤ k → k < i → get_or list k 0 ≡ byteBefore k)
+invariant-loop list start i₀ i = (start ≤ i) × ((k : ℕ) → start ≤ k → k < i → get_or list k 0 ≡ byte_before k)
 
 abbrev decreases-loop : tie.decreases-loop
 decreases-loop list start i₀ i = 4300 - i
@@ -34,7 +34,7 @@ loop-less : tie.Need-loop-smaller invariant-loop decreases-loop
 loop-less c = search rules
 
 loop-again : tie.Need-loop-preserved invariant-loop decreases-loop
-loop-again c = (omega arith, kept_step byteBefore c.before.before.before.before.before.args.list.now c.before.before.before.before.before.args.start c.before.before.before.before.loop.i c.before.before.before.before.loop.invariant.1 (omega arith))
+loop-again c = (omega arith, kept_step byte_before c.before.before.before.before.before.args.list.now c.before.before.before.before.before.args.start c.before.before.before.before.loop.i c.before.before.before.before.loop.invariant.1 (omega arith))
 
 returns-2 : tie.Need-returns-2 invariant-loop decreases-loop
 returns-2 c = λ k f h. c.before.loop.invariant.1 k f (omega arith)

@@ -9,13 +9,13 @@ use lib.ListN.{get_or}
 use lib.IntN.{ℤ, pos}
 use Rattle.sheet.specs.Lag.{excess}
 use Rattle.sheet.specs.Reads.{ExcessIs}
-use Rattle.records.specs.Lent.{excessBefore}
-use Rattle.records.specs.Laws.Lent.{step-to}
+use Rattle.records.specs.Lent.{excess_before}
+use Rattle.records.specs.Laws.Lent.{step_to_lem}
 use Rattle.records.proofs.lent.kept_lags.Statement.{statement}
 use Rattle.records.proofs.lent.kept_lags.Tie as tie
 
 abbrev invariant-loop : tie.invariant-loop
-invariant-loop list given i₀ i = (given ≤ i) × ((k : ℕ) → given ≤ k → k < i → excess (get_or list k (pos 0)) ≡ excessBefore k)
+invariant-loop list given i₀ i = (given ≤ i) × ((k : ℕ) → given ≤ k → k < i → excess (get_or list k (pos 0)) ≡ excess_before k)
 
 abbrev decreases-loop : tie.decreases-loop
 decreases-loop list given i₀ i = 4300 - i
@@ -45,7 +45,7 @@ loop-less : tie.Need-loop-smaller invariant-loop decreases-loop
 loop-less c = search rules
 
 loop-again : tie.Need-loop-preserved invariant-loop decreases-loop
-loop-again c = let here = subst (λ (z : ℤ). ExcessIs z c.before.before.excess-of.result) (to_z-of_z {w = w16} {z = get_or c.before.before.before.before.before.before.args.list.now c.before.before.before.before.before.loop.i (pos 0)} (sfits_of c.before.before.before.excess-of-arg.given)) c.before.before.excess-of.ensures in (omega arith, step-to (λ k. excess (get_or c.before.before.before.before.before.before.args.list.now k (pos 0)) ≡ excessBefore k) c.before.before.before.before.before.before.args.given c.before.before.before.before.before.loop.i c.before.before.before.before.before.loop.invariant.1 (omega (arith, here.is)))
+loop-again c = let here = subst (λ (z : ℤ). ExcessIs z c.before.before.excess-of.result) (to_z-of_z {w = w16} {z = get_or c.before.before.before.before.before.before.args.list.now c.before.before.before.before.before.loop.i (pos 0)} (sfits_of c.before.before.before.excess-of-arg.given)) c.before.before.excess-of.ensures in (omega arith, step_to_lem (λ k. excess (get_or c.before.before.before.before.before.before.args.list.now k (pos 0)) ≡ excess_before k) c.before.before.before.before.before.before.args.given c.before.before.before.before.before.loop.i c.before.before.before.before.before.loop.invariant.1 (omega (arith, here.is)))
 
 returns-2 : tie.Need-returns-2 invariant-loop decreases-loop
 returns-2 c = λ k f h. c.before.loop.invariant.1 k f (omega arith)

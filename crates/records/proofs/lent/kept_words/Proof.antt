@@ -4,13 +4,13 @@ use native.Mathlib.Omega.{arith}
 use mathlib.Core.Path.{◌≡◌}
 use Prim.Native.Nat.{ℕ, ◌-◌, ◌<◌, ◌≤◌}
 use lib.ListN.{get_or}
-use Rattle.records.specs.Lent.{wordBefore}
+use Rattle.records.specs.Lent.{word_before}
 use Rattle.records.specs.Laws.Lent.{kept_step}
 use Rattle.records.proofs.lent.kept_words.Statement.{statement}
 use Rattle.records.proofs.lent.kept_words.Tie as tie
 
 abbrev invariant-loop : tie.invariant-loop
-invariant-loop list count i₀ i = (count ≤ i) × ((k : ℕ) → count ≤ k → k < i → get_or list k 0 ≡ wordBefore k)
+invariant-loop list count i₀ i = (count ≤ i) × ((k : ℕ) → count ≤ k → k < i → get_or list k 0 ≡ word_before k)
 
 abbrev decreases-loop : tie.decreases-loop
 decreases-loop list count i₀ i = 4300 - i
@@ -37,7 +37,7 @@ loop-less : tie.Need-loop-smaller invariant-loop decreases-loop
 loop-less c = search rules
 
 loop-again : tie.Need-loop-preserved invariant-loop decreases-loop
-loop-again c = (omega arith, kept_step wordBefore c.before.before.before.before.before.args.list.now c.before.before.before.before.before.args.count c.before.before.before.before.loop.i c.before.before.before.before.loop.invariant.1 (omega arith))
+loop-again c = (omega arith, kept_step word_before c.before.before.before.before.before.args.list.now c.before.before.before.before.before.args.count c.before.before.before.before.loop.i c.before.before.before.before.loop.invariant.1 (omega arith))
 
 returns-2 : tie.Need-returns-2 invariant-loop decreases-loop
 returns-2 c = λ k f h. c.before.loop.invariant.1 k f (omega arith)

@@ -4,13 +4,13 @@ use native.Mathlib.Omega.{arith}
 use mathlib.Core.Path.{◌≡◌}
 use Prim.Native.Nat.{ℕ, ◌-◌, ◌<◌, ◌≤◌}
 use lib.ListN.{length, get_or}
-use Rattle.records.specs.Lent.{byteBefore}
+use Rattle.records.specs.Lent.{byte_before}
 use Rattle.records.specs.Laws.Lent.{marked_step}
 use Rattle.records.proofs.lent.marked_bytes.Statement.{statement}
 use Rattle.records.proofs.lent.marked_bytes.Tie as tie
 
 abbrev invariant-loop : tie.invariant-loop
-invariant-loop list₀ i₀ list i = (i ≤ 4300) × (length list ≡ length list₀) × ((k : ℕ) → k < i → get_or list k 0 ≡ byteBefore k)
+invariant-loop list₀ i₀ list i = (i ≤ 4300) × (length list ≡ length list₀) × ((k : ℕ) → k < i → get_or list k 0 ≡ byte_before k)
 
 abbrev decreases-loop : tie.decreases-loop
 decreases-loop list₀ i₀ list i = 4300 - i
@@ -31,7 +31,7 @@ loop-less : tie.Need-loop-smaller invariant-loop decreases-loop
 loop-less c = search rules
 
 loop-again : tie.Need-loop-preserved invariant-loop decreases-loop
-loop-again c = (omega arith, search rules, marked_step 0 byteBefore c.before.before.loop.list c.before.before.loop.i c.byte-before.result (omega arith) c.byte-before.ensures c.before.before.loop.invariant.2)
+loop-again c = (omega arith, search rules, marked_step 0 byte_before c.before.before.loop.list c.before.before.loop.i c.byte-before.result (omega arith) c.byte-before.ensures c.before.before.loop.invariant.2)
 
 returns : tie.Need-returns invariant-loop decreases-loop
 returns c = (omega arith, λ k f h. c.before.loop.invariant.2 k (omega arith))

@@ -8,15 +8,15 @@ use mathlib.Core.Path.{◌≡◌, ◌∙◌, ap}
 use Prim.Native.Nat.{ℕ, ◌-◌, ◌<◌, ◌≤◌}
 use lib.ListN.{length, get_or}
 use lib.IntN.{pos}
-use Rattle.sheet.specs.Lag.{excess, lagOf}
-use Rattle.sheet.specs.Laws.Lag.{excess-lag}
-use Rattle.records.specs.Lent.{excessBefore}
+use Rattle.sheet.specs.Lag.{excess, lag_of}
+use Rattle.sheet.specs.Laws.Lag.{excess_lag}
+use Rattle.records.specs.Lent.{excess_before}
 use Rattle.records.specs.Laws.Lent.{marked_step}
 use Rattle.records.proofs.lent.marked_lags.Statement.{statement}
 use Rattle.records.proofs.lent.marked_lags.Tie as tie
 
 abbrev invariant-loop : tie.invariant-loop
-invariant-loop list₀ i₀ list i = (i ≤ 4300) × (length list ≡ length list₀) × ((k : ℕ) → k < i → get_or list k (pos 0) ≡ lagOf (excessBefore k))
+invariant-loop list₀ i₀ list i = (i ≤ 4300) × (length list ≡ length list₀) × ((k : ℕ) → k < i → get_or list k (pos 0) ≡ lag_of (excess_before k))
 
 abbrev decreases-loop : tie.decreases-loop
 decreases-loop list₀ i₀ list i = 4300 - i
@@ -43,10 +43,10 @@ loop-less : tie.Need-loop-smaller invariant-loop decreases-loop
 loop-less c = search rules
 
 loop-again : tie.Need-loop-preserved invariant-loop decreases-loop
-loop-again c = (omega arith, search rules, marked_step (pos 0) (λ k. lagOf (excessBefore k)) c.before.before.before.loop.list c.before.before.before.loop.i (to_z w16 (of_z w16 c.lag-of.result)) (omega arith) (to_z-of_z {w = w16} (sfits_of c.lag-of.type-inv) ∙ c.lag-of.ensures ∙ ap lagOf c.before.excess-before.ensures) c.before.before.before.loop.invariant.2)
+loop-again c = (omega arith, search rules, marked_step (pos 0) (λ k. lag_of (excess_before k)) c.before.before.before.loop.list c.before.before.before.loop.i (to_z w16 (of_z w16 c.lag-of.result)) (omega arith) (to_z-of_z {w = w16} (sfits_of c.lag-of.type-inv) ∙ c.lag-of.ensures ∙ ap lag_of c.before.excess-before.ensures) c.before.before.before.loop.invariant.2)
 
 returns : tie.Need-returns invariant-loop decreases-loop
-returns c = (omega arith, λ k f h. ap excess (c.before.loop.invariant.2 k (omega arith)) ∙ excess-lag (excessBefore k) (omega arith))
+returns c = (omega arith, λ k f h. ap excess (c.before.loop.invariant.2 k (omega arith)) ∙ excess_lag (excess_before k) (omega arith))
 
 pub marked-lags-spec : {M : Type 1} → statement M
 marked-lags-spec =

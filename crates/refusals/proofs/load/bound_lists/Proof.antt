@@ -4,15 +4,15 @@ use native.Mathlib.Omega.{arith}
 use Prim.Native.Nat.{◌≤◌, ◌-◌}
 use mathlib.Core.Path.{◌≡◌, refl, sym}
 use lib.ListN.{length, get_or, length-set}
-use Rattle.sheet.specs.Core.{ceilingOf}
+use Rattle.sheet.specs.Core.{ceiling_of}
 use Rattle.sheet.specs.Filled.{filled}
-use Rattle.sheet.specs.Laws.Filled.{filled_none, filled-turn, filled-done}
-use Rattle.refusals.specs.Load.{wireBound, ceilingBound}
+use Rattle.sheet.specs.Laws.Filled.{filled_none, filled_turn, filled_done}
+use Rattle.refusals.specs.Load.{wire_bound, ceiling_bound}
 use Rattle.refusals.proofs.load.bound_lists.Statement.{statement}
 use Rattle.refusals.proofs.load.bound_lists.Tie as tie
 
 abbrev invariant-loop : tie.invariant-loop
-invariant-loop m registers wires₀ ceilings₀ j₀ wires ceilings j = (j ≤ m) × (length wires ≡ 256) × (length ceilings ≡ 256) × (wires ≡ filled (λ i. wireBound (get_or registers i 0)) j wires₀) × (ceilings ≡ filled (λ i. ceilingBound (ceilingOf 0) (get_or registers i 0)) j ceilings₀)
+invariant-loop m registers wires₀ ceilings₀ j₀ wires ceilings j = (j ≤ m) × (length wires ≡ 256) × (length ceilings ≡ 256) × (wires ≡ filled (λ i. wire_bound (get_or registers i 0)) j wires₀) × (ceilings ≡ filled (λ i. ceiling_bound (ceiling_of 0) (get_or registers i 0)) j ceilings₀)
 
 abbrev decreases-loop : tie.decreases-loop
 decreases-loop m registers wires₀ ceilings₀ j₀ wires ceilings j = m - j
@@ -54,10 +54,10 @@ loop-less : tie.Need-loop-smaller invariant-loop decreases-loop
 loop-less c = search rules
 
 loop-again : tie.Need-loop-preserved invariant-loop decreases-loop
-loop-again c = (search rules, simp length-set (omega arith), simp length-set (omega arith), filled-turn _ _ _ _ _ c.before.before.loop.invariant.3 refl, filled-turn _ _ _ _ _ c.before.before.loop.invariant.4 refl)
+loop-again c = (search rules, simp length-set (omega arith), simp length-set (omega arith), filled_turn _ _ _ _ _ c.before.before.loop.invariant.3 refl, filled_turn _ _ _ _ _ c.before.before.loop.invariant.4 refl)
 
 returns : tie.Need-returns invariant-loop decreases-loop
-returns c = (filled-done _ _ _ _ _ c.before.loop.invariant.3 (omega arith) (omega arith), filled-done _ _ _ _ _ c.before.loop.invariant.4 (omega arith) (omega arith))
+returns c = (filled_done _ _ _ _ _ c.before.loop.invariant.3 (omega arith) (omega arith), filled_done _ _ _ _ _ c.before.loop.invariant.4 (omega arith) (omega arith))
 
 pub bound-lists-spec : {M : Type 1} → statement M
 bound-lists-spec =

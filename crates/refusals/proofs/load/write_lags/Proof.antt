@@ -5,8 +5,8 @@ use Prim.Native.Nat.{◌≤◌, ◌-◌}
 use mathlib.Core.Path.{◌≡◌, sym, ◌∙◌}
 use lib.ListN.{length, get_or, length-set}
 use Rattle.sheet.specs.Filled.{filled}
-use Rattle.sheet.specs.Lag.{lagOf}
-use Rattle.sheet.specs.Laws.Filled.{filled_none, filled-turn, filled-done}
+use Rattle.sheet.specs.Lag.{lag_of}
+use Rattle.sheet.specs.Laws.Filled.{filled_none, filled_turn, filled_done}
 use mir.Syntax.{w16}
 use mir.Facts.{to_z-of_z}
 use borrow.Author.Rules.{sfits_of}
@@ -14,7 +14,7 @@ use Rattle.refusals.proofs.load.write_lags.Statement.{statement}
 use Rattle.refusals.proofs.load.write_lags.Tie as tie
 
 abbrev invariant-loop : tie.invariant-loop
-invariant-loop n e lags₀ b₀ lags b = (b ≤ n) × (length lags ≡ length lags₀) × (lags ≡ filled (λ i. lagOf (get_or e i 0)) b lags₀)
+invariant-loop n e lags₀ b₀ lags b = (b ≤ n) × (length lags ≡ length lags₀) × (lags ≡ filled (λ i. lag_of (get_or e i 0)) b lags₀)
 
 abbrev decreases-loop : tie.decreases-loop
 decreases-loop n e lags₀ b₀ lags b = n - b
@@ -44,13 +44,13 @@ loop-less : tie.Need-loop-smaller invariant-loop decreases-loop
 loop-less c = search rules
 
 loop-again : tie.Need-loop-preserved invariant-loop decreases-loop
-loop-again c = (search rules, simp length-set (omega arith), filled-turn _ _ _ _ _ c.before.before.before.loop.invariant.2 (to_z-of_z {w = w16} (sfits_of c.lag-of.type-inv) ∙ c.lag-of.ensures))
+loop-again c = (search rules, simp length-set (omega arith), filled_turn _ _ _ _ _ c.before.before.before.loop.invariant.2 (to_z-of_z {w = w16} (sfits_of c.lag-of.type-inv) ∙ c.lag-of.ensures))
 
 same_length : tie.Need-same-length invariant-loop decreases-loop
 same_length c = search rules
 
 returns : tie.Need-returns invariant-loop decreases-loop
-returns c = filled-done _ _ _ _ _ c.before.loop.invariant.2 (omega arith) (omega arith)
+returns c = filled_done _ _ _ _ _ c.before.loop.invariant.2 (omega arith) (omega arith)
 
 pub write-lags-spec : {M : Type 1} → statement M
 write-lags-spec =

@@ -1,5 +1,5 @@
 -- The entry's numbers stand where the sheet has them.
-use Rattle.sheet.specs.Laws.Sheet.{block-given}
+use Rattle.sheet.specs.Laws.Sheet.{block_given}
 use borrow.Author.Rules.{rules}
 use Rattle.sheet.proofs.block.read_block.Statement.{statement}
 use Rattle.sheet.proofs.block.read_block.Tie as tie
@@ -29,7 +29,7 @@ block-of-requires : tie.Need-block-of-requires
 block-of-requires c κs = search rules
 
 returns : tie.Need-returns
-returns c = block-given c.before.before.before.before.before.args.s.now c.before.before.before.before.before.args.b _ _ _ c.Block-of.result c.Block-of.ensures c.before.before.before.u32-at.ensures c.before.before.excess-at.ensures c.before.excess-at2.ensures
+returns c = block_given c.before.before.before.before.before.args.s.now c.before.before.before.before.before.args.b _ _ _ c.Block-of.result c.Block-of.ensures c.before.before.before.u32-at.ensures c.before.before.excess-at.ensures c.before.excess-at2.ensures
 
 pub read-block-spec : {M : Type 1} → statement M
 read-block-spec =

@@ -4,8 +4,8 @@ use native.Mathlib.Omega.{arith}
 use Prim.Native.Nat.{ℕ, ◌≤◌, ◌<◌, ◌-◌}
 use borrow.Author.Count.{below_none, below_more}
 use Rattle.sheet.specs.Sheet.{WireGood}
-use Rattle.sheet.specs.Laws.Rules.{search-stops, search-ends}
-use Rattle.sheet.specs.Laws.Sheet.{wire-read, wire-refused}
+use Rattle.sheet.specs.Laws.Rules.{search_stops, search_ends}
+use Rattle.sheet.specs.Laws.Sheet.{wire_read, wire_refused}
 use Rattle.sheet.proofs.entries.first_bad_wire.Statement.{statement}
 use Rattle.sheet.proofs.entries.first_bad_wire.Tie as tie
 
@@ -28,7 +28,7 @@ enum-told-2 : tie.Need-enum-told-2 invariant-loop decreases-loop
 enum-told-2 c = search rules
 
 returns : tie.Need-returns invariant-loop decreases-loop
-returns c = search-stops _ _ _ (omega arith) c.before.before.before.before.loop.invariant.1 (wire-refused c.before.before.before.before.before.before.args.s.now c.before.before.before.before.loop.j c.before.before.read-wire.result _ c.before.before.read-wire.ensures c.enum-told2.given.1)
+returns c = search_stops _ _ _ (omega arith) c.before.before.before.before.loop.invariant.1 (wire_refused c.before.before.before.before.before.before.args.s.now c.before.before.before.before.loop.j c.before.before.read-wire.result _ c.before.before.read-wire.ensures c.enum-told2.given.1)
 
 add-j : tie.Need-overflow-add-j invariant-loop decreases-loop
 add-j c = search rules
@@ -37,10 +37,10 @@ loop-less : tie.Need-loop-smaller invariant-loop decreases-loop
 loop-less c = search rules
 
 loop-again : tie.Need-loop-preserved invariant-loop decreases-loop
-loop-again c = (search rules, below_more _ _ c.before.before.before.before.loop.invariant.1 (λ bad. bad (wire-read c.before.before.before.before.before.before.args.s.now c.before.before.before.before.loop.j c.before.before.read-wire.result _ _ _ c.before.before.read-wire.ensures c.enum_told.given.1).1))
+loop-again c = (search rules, below_more _ _ c.before.before.before.before.loop.invariant.1 (λ bad. bad (wire_read c.before.before.before.before.before.before.args.s.now c.before.before.before.before.loop.j c.before.before.read-wire.result _ _ _ c.before.before.read-wire.ensures c.enum_told.given.1).1))
 
 returns-2 : tie.Need-returns-2 invariant-loop decreases-loop
-returns-2 c = search-ends _ _ _ (omega arith) c.before.loop.invariant.1
+returns-2 c = search_ends _ _ _ (omega arith) c.before.loop.invariant.1
 
 pub first-bad-wire-spec : {M : Type 1} → statement M
 first-bad-wire-spec =

@@ -1,8 +1,8 @@
 -- Each test stands for its refusal; what passes them all is framed.
 use native.Mathlib.Omega.{arith}
 use mathlib.Core.Logic.{inl, inr}
-use Rattle.sheet.specs.Laws.Rules.{told-true, told-false}
-use Rattle.sheet.specs.Laws.Sheet.{too_short, counts-wrong, offsets-wrong}
+use Rattle.sheet.specs.Laws.Rules.{told_true, told_false}
+use Rattle.sheet.specs.Laws.Sheet.{too_short, counts_wrong, offsets_wrong}
 use borrow.Author.Rules.{rules}
 use Rattle.sheet.proofs.frame.read_frame.Statement.{statement}
 use Rattle.sheet.proofs.frame.read_frame.Tie as tie
@@ -29,31 +29,31 @@ refusal-requires-2 : tie.Need-refusal-requires-2
 refusal-requires-2 c κs = search rules
 
 returns-2 : tie.Need-returns-2
-returns-2 c = rw c.refusal2.ensures (counts-wrong _ (omega arith) (inl (omega arith)))
+returns-2 c = rw c.refusal2.ensures (counts_wrong _ (omega arith) (inl (omega arith)))
 
 refusal-requires-3 : tie.Need-refusal-requires-3
 refusal-requires-3 c κs = search rules
 
 returns-3 : tie.Need-returns-3
-returns-3 c = rw c.refusal3.ensures (counts-wrong _ (omega arith) (inr (inl (omega arith))))
+returns-3 c = rw c.refusal3.ensures (counts_wrong _ (omega arith) (inr (inl (omega arith))))
 
 refusal-requires-4 : tie.Need-refusal-requires-4
 refusal-requires-4 c κs = search rules
 
 returns-4 : tie.Need-returns-4
-returns-4 c = rw c.refusal4.ensures (counts-wrong _ (omega arith) (inr (inr (omega arith))))
+returns-4 c = rw c.refusal4.ensures (counts_wrong _ (omega arith) (inr (inr (omega arith))))
 
 offsets-right-requires : tie.Need-offsets-right-requires
 offsets-right-requires c κs = search rules
 
 returns-5 : tie.Need-returns-5
-returns-5 c = (c.before.before.before.before.before.before.u16-at.ensures.0, c.before.before.before.before.before.u16-at2.ensures.0, record { some_block = omega arith; few-blocks = omega arith; few-wires = omega arith; offsets = told-true _ c.before.offsets-right.result c.before.offsets-right.ensures c.if5.true })
+returns-5 c = (c.before.before.before.before.before.before.u16-at.ensures.0, c.before.before.before.before.before.u16-at2.ensures.0, record { some_block = omega arith; few_blocks = omega arith; few_wires = omega arith; offsets = told_true _ c.before.offsets-right.result c.before.offsets-right.ensures c.if5.true })
 
 refusal-requires-5 : tie.Need-refusal-requires-5
 refusal-requires-5 c κs = search rules
 
 returns-6 : tie.Need-returns-6
-returns-6 c = rw c.refusal5.ensures (offsets-wrong _ (omega arith) (omega arith) (omega arith) (omega arith) (told-false _ c.before.before.offsets-right.result c.before.before.offsets-right.ensures c.before.if5.false))
+returns-6 c = rw c.refusal5.ensures (offsets_wrong _ (omega arith) (omega arith) (omega arith) (omega arith) (told_false _ c.before.before.offsets-right.result c.before.before.offsets-right.ensures c.before.if5.false))
 
 pub read-frame-spec : {M : Type 1} → statement M
 read-frame-spec =

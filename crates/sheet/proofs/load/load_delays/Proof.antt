@@ -4,15 +4,15 @@ use native.Mathlib.Omega.{arith}
 use Prim.Native.Nat.{◌≤◌, ◌-◌}
 use mathlib.Core.Path.{◌≡◌, sym}
 use lib.ListN.{length, length-set}
-use Rattle.sheet.specs.Core.{delayIn}
+use Rattle.sheet.specs.Core.{delay_in}
 use Rattle.sheet.specs.Filled.{filled}
-use Rattle.sheet.specs.Laws.Filled.{filled_none, filled-turn, filled-done}
+use Rattle.sheet.specs.Laws.Filled.{filled_none, filled_turn, filled_done}
 use Rattle.sheet.specs.Laws.Sheet.{block_read, block_refused}
 use Rattle.sheet.proofs.load.load_delays.Statement.{statement}
 use Rattle.sheet.proofs.load.load_delays.Tie as tie
 
 abbrev invariant-loop : tie.invariant-loop
-invariant-loop s n delays₀ b₀ delays b = (b ≤ n) × (length delays ≡ 64) × (delays ≡ filled (delayIn s) b delays₀)
+invariant-loop s n delays₀ b₀ delays b = (b ≤ n) × (length delays ≡ 64) × (delays ≡ filled (delay_in s) b delays₀)
 
 abbrev decreases-loop : tie.decreases-loop
 decreases-loop s n delays₀ b₀ delays b = n - b
@@ -45,10 +45,10 @@ loop-less : tie.Need-loop-smaller invariant-loop decreases-loop
 loop-less c = search rules
 
 loop-again : tie.Need-loop-preserved invariant-loop decreases-loop
-loop-again c = (search rules, simp length-set (omega arith), filled-turn _ _ _ _ _ c.before.before.before.before.before.loop.invariant.2 (block_read c.before.before.before.before.before.before.before.args.s.now c.before.before.before.before.before.loop.b c.before.before.before.read-block.result _ _ _ c.before.before.before.read-block.ensures c.before.delay.given.1).0.delay-is)
+loop-again c = (search rules, simp length-set (omega arith), filled_turn _ _ _ _ _ c.before.before.before.before.before.loop.invariant.2 (block_read c.before.before.before.before.before.before.before.args.s.now c.before.before.before.before.before.loop.b c.before.before.before.read-block.result _ _ _ c.before.before.before.read-block.ensures c.before.delay.given.1).0.delay_is)
 
 returns-2 : tie.Need-returns-2 invariant-loop decreases-loop
-returns-2 c = filled-done _ _ _ _ _ c.before.loop.invariant.2 (omega arith) (omega arith)
+returns-2 c = filled_done _ _ _ _ _ c.before.loop.invariant.2 (omega arith) (omega arith)
 
 pub load-delays-spec : {M : Type 1} → statement M
 load-delays-spec =

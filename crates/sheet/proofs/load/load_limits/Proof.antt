@@ -4,16 +4,16 @@ use native.Mathlib.Omega.{arith}
 use Prim.Native.Nat.{◌≤◌, ◌-◌}
 use mathlib.Core.Path.{◌≡◌, sym}
 use lib.ListN.{length, length-set}
-use Rattle.sheet.specs.Core.{lowerIn, upperIn}
+use Rattle.sheet.specs.Core.{lower_in, upper_in}
 use Rattle.sheet.specs.Lag.{excess}
 use Rattle.sheet.specs.Filled.{filled}
-use Rattle.sheet.specs.Laws.Filled.{filled_none, filled-turn, filled-done}
+use Rattle.sheet.specs.Laws.Filled.{filled_none, filled_turn, filled_done}
 use Rattle.sheet.specs.Laws.Sheet.{block_read, block_refused}
 use Rattle.sheet.proofs.load.load_limits.Statement.{statement}
 use Rattle.sheet.proofs.load.load_limits.Tie as tie
 
 abbrev invariant-loop : tie.invariant-loop
-invariant-loop s n lower₀ upper₀ b₀ lower upper b = (b ≤ n) × (length lower ≡ 64) × (length upper ≡ 64) × (lower ≡ filled (λ i. excess (lowerIn s i)) b lower₀) × (upper ≡ filled (λ i. excess (upperIn s i)) b upper₀)
+invariant-loop s n lower₀ upper₀ b₀ lower upper b = (b ≤ n) × (length lower ≡ 64) × (length upper ≡ 64) × (lower ≡ filled (λ i. excess (lower_in s i)) b lower₀) × (upper ≡ filled (λ i. excess (upper_in s i)) b upper₀)
 
 abbrev decreases-loop : tie.decreases-loop
 decreases-loop s n lower₀ upper₀ b₀ lower upper b = n - b
@@ -53,10 +53,10 @@ loop-less c = search rules
 
 loop-again : tie.Need-loop-preserved invariant-loop decreases-loop
 loop-again c = let w = (block_read c.before.before.before.before.before.before.before.args.s.now c.before.before.before.before.before.loop.b c.before.before.before.read-block.result _ _ _ c.before.before.before.read-block.ensures c.before.low.given.1).0 in
-    (search rules, simp length-set (omega arith), simp length-set (omega arith), filled-turn _ _ _ _ _ c.before.before.before.before.before.loop.invariant.3 w.lower-is, filled-turn _ _ _ _ _ c.before.before.before.before.before.loop.invariant.4 w.upper_is)
+    (search rules, simp length-set (omega arith), simp length-set (omega arith), filled_turn _ _ _ _ _ c.before.before.before.before.before.loop.invariant.3 w.lower_is, filled_turn _ _ _ _ _ c.before.before.before.before.before.loop.invariant.4 w.upper_is)
 
 returns-2 : tie.Need-returns-2 invariant-loop decreases-loop
-returns-2 c = (filled-done _ _ _ _ _ c.before.loop.invariant.3 (omega arith) (omega arith), filled-done _ _ _ _ _ c.before.loop.invariant.4 (omega arith) (omega arith))
+returns-2 c = (filled_done _ _ _ _ _ c.before.loop.invariant.3 (omega arith) (omega arith), filled_done _ _ _ _ _ c.before.loop.invariant.4 (omega arith) (omega arith))
 
 pub load-limits-spec : {M : Type 1} → statement M
 load-limits-spec =

@@ -1,5 +1,5 @@
 -- The entry's numbers stand where the sheet has them.
-use Rattle.sheet.specs.Laws.Sheet.{wire-given}
+use Rattle.sheet.specs.Laws.Sheet.{wire_given}
 use borrow.Author.Rules.{rules}
 use Rattle.sheet.proofs.wire.read_wire.Statement.{statement}
 use Rattle.sheet.proofs.wire.read_wire.Tie as tie
@@ -41,7 +41,7 @@ wire-of-requires : tie.Need-wire-of-requires
 wire-of-requires c κs = search rules
 
 returns : tie.Need-returns
-returns c = wire-given c.before.before.before.before.before.before.args.s.now _ c.before.before.before.before.before.before.args.j _ _ _ _ c.wire-of.result c.before.before.before.before.before.before.requires.0 c.wire-of.ensures c.before.before.before.before.u16-at.ensures.0 c.before.before.before.u16-at2.ensures.0 c.before.before.u16-at3.ensures.0 c.before.u16-at4.ensures.0
+returns c = wire_given c.before.before.before.before.before.before.args.s.now _ c.before.before.before.before.before.before.args.j _ _ _ _ c.wire-of.result c.before.before.before.before.before.before.requires.0 c.wire-of.ensures c.before.before.before.before.u16-at.ensures.0 c.before.before.before.u16-at2.ensures.0 c.before.before.u16-at3.ensures.0 c.before.u16-at4.ensures.0
 
 pub read-wire-spec : {M : Type 1} → statement M
 read-wire-spec =

@@ -1,15 +1,15 @@
 use native.Mathlib.Omega.{arith}
-use Rattle.solver.specs.Laws.Step.{bounds, step-met, step-under, step-lowers}
+use Rattle.solver.specs.Laws.Step.{bounds, step_met, step_under, step_lowers}
 use mathlib.Core.Path.{refl}
 use borrow.Author.Rules.{rules}
 use Rattle.solver.proofs.relax.lower_block.Statement.{statement}
 use Rattle.solver.proofs.relax.lower_block.Tie as tie
 
 meets-requires : tie.Need-meets-requires
-meets-requires c κs = let B = bounds c.before.requires.2 in (B.rooted, B.b-block, B.n-small, B.par-long)
+meets-requires c κs = let B = bounds c.before.requires.2 in (B.rooted, B.b_block, B.n_small, B.par_long)
 
 returns : tie.Need-returns
-returns c = λ g k R q lt. step-met R _ q lt (rw c.if1.true at c.before.meets.ensures)
+returns c = λ g k R q lt. step_met R _ q lt (rw c.if1.true at c.before.meets.ensures)
 
 mul-if2 : tie.Need-overflow-mul-if2
 mul-if2 c = omega (arith, bounds c.before.before.before.requires.2)
@@ -21,7 +21,7 @@ add-if2 : tie.Need-overflow-add-if2
 add-if2 c = omega (arith, bounds c.before.before.before.before.requires.2)
 
 returns-2 : tie.Need-returns-2
-returns-2 c = λ g k R q lt. step-under R _ q lt (omega arith)
+returns-2 c = λ g k R q lt. step_under R _ q lt (omega arith)
 
 sub-e : tie.Need-overflow-sub-e
 sub-e c = search rules
@@ -45,7 +45,7 @@ element-write-up : tie.Need-element-write-up
 element-write-up c = omega (arith, bounds c.before.before.before.before.before.requires.2)
 
 returns-3 : tie.Need-returns-3
-returns-3 c = λ g k R q lt. step-lowers R _ q lt (rw c.before.before.if1.false at c.before.before.before.meets.ensures) (omega arith) refl refl refl
+returns-3 c = λ g k R q lt. step_lowers R _ q lt (rw c.before.before.if1.false at c.before.before.before.meets.ensures) (omega arith) refl refl refl
 
 pub lower-block-spec : {M : Type 1} → statement M
 lower-block-spec =

@@ -1,5 +1,5 @@
 use native.Mathlib.Omega.{arith}
-use Rattle.solver.specs.Laws.Step.{bounds, step-holds}
+use Rattle.solver.specs.Laws.Step.{bounds, step_holds}
 use mathlib.Core.Path.{refl}
 use Rattle.solver.proofs.relax.relax.Statement.{statement}
 use Rattle.solver.proofs.relax.relax.Tie as tie
@@ -23,7 +23,7 @@ add-if1 : tie.Need-overflow-add-if1
 add-if1 c = omega (arith, bounds c.before.before.requires.1)
 
 returns : tie.Need-returns
-returns c = λ g R. step-holds R _ refl (omega arith)
+returns c = λ g R. step_holds R _ refl (omega arith)
 
 lower-block-requires : tie.Need-lower-block-requires
 lower-block-requires c κs = (c.before.before.before.before.before.before.requires.0, _, c.before.before.before.before.before.before.requires.1, refl, omega arith)

@@ -3,7 +3,7 @@ use borrow.Author.Rules.{rules}
 use native.Mathlib.Omega.{arith}
 use Prim.Native.Nat.{ℕ, ◌≤◌, ◌<◌, ◌-◌}
 use lib.ListN.{get_or}
-use Rattle.solver.specs.Laws.Sweep.{longest-found, longest-more}
+use Rattle.solver.specs.Laws.Sweep.{longest_found, longest_more}
 use Rattle.solver.proofs.sweep.longest_delay.Statement.{statement}
 use Rattle.solver.proofs.sweep.longest_delay.Tie as tie
 
@@ -32,10 +32,10 @@ loop-less : tie.Need-loop-smaller invariant-loop decreases-loop
 loop-less c = search rules
 
 loop-again : tie.Need-loop-preserved invariant-loop decreases-loop
-loop-again c = (omega arith, longest-more c.before.before.before.before.args.delays.now _ _ _ c.before.before.before.loop.invariant.1 (omega (arith, c.larger.ensures)) (omega (arith, c.larger.ensures)))
+loop-again c = (omega arith, longest_more c.before.before.before.before.args.delays.now _ _ _ c.before.before.before.loop.invariant.1 (omega (arith, c.larger.ensures)) (omega (arith, c.larger.ensures)))
 
 returns : tie.Need-returns invariant-loop decreases-loop
-returns c = longest-found _ _ _ c.before.before.requires (omega arith) c.before.loop.invariant.1
+returns c = longest_found _ _ _ c.before.before.requires (omega arith) c.before.loop.invariant.1
 
 pub longest-delay-spec : {M : Type 1} → statement M
 longest-delay-spec =

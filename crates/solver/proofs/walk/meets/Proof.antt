@@ -1,6 +1,6 @@
 use borrow.Author.Rules.{rules}
 use native.Mathlib.Omega.{arith}
-use Rattle.solver.specs.Laws.Walk.{Walking, walk_start, walk_step, walk-hit, walk_end, walk-over}
+use Rattle.solver.specs.Laws.Walk.{Walking, walk_start, walk_step, walk_hit, walk_end, walk_over}
 use Prim.Native.Nat.{◌-◌}
 use Rattle.solver.proofs.walk.meets.Statement.{statement}
 use Rattle.solver.proofs.walk.meets.Tie as tie
@@ -15,7 +15,7 @@ loop-holds : tie.Need-loop-init invariant-loop decreases-loop
 loop-holds c = walk_start _ _ _ _ c.requires.0 c.requires.1
 
 returns : tie.Need-returns invariant-loop decreases-loop
-returns c = walk-hit c.before.before.before.requires.0 c.before.before.loop.invariant c.if1.true
+returns c = walk_hit c.before.before.before.requires.0 c.before.before.loop.invariant c.if1.true
 
 returns-2 : tie.Need-returns-2 invariant-loop decreases-loop
 returns-2 c = walk_end c.before.before.before.before.requires.0 c.before.before.before.loop.invariant c.before.if1.false c.if2.true
@@ -36,7 +36,7 @@ loop-again : tie.Need-loop-preserved invariant-loop decreases-loop
 loop-again c = walk_step c.before.before.before.before.before.requires.0 c.before.before.before.before.loop.invariant c.before.before.if1.false c.before.if2.false
 
 returns-3 : tie.Need-returns-3 invariant-loop decreases-loop
-returns-3 c = absurd (walk-over c.before.before.requires.0 c.before.loop.invariant c.loop-test.false)
+returns-3 c = absurd (walk_over c.before.before.requires.0 c.before.loop.invariant c.loop-test.false)
 
 pub meets-spec : {M : Type 1} → statement M
 meets-spec =

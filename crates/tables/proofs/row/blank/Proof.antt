@@ -5,7 +5,7 @@ use Prim.Native.Nat.{◌≤◌, ◌-◌}
 use mathlib.Core.Path.{◌≡◌, refl, sym}
 use lib.ListN.{length, length-set}
 use Rattle.sheet.specs.Filled.{filled}
-use Rattle.sheet.specs.Laws.Filled.{filled_none, filled-turn, filled-done}
+use Rattle.sheet.specs.Laws.Filled.{filled_none, filled_turn, filled_done}
 use Rattle.tables.proofs.row.blank.Statement.{statement}
 use Rattle.tables.proofs.row.blank.Tie as tie
 
@@ -31,10 +31,10 @@ loop-less : tie.Need-loop-smaller invariant-loop decreases-loop
 loop-less c = search rules
 
 loop-again : tie.Need-loop-preserved invariant-loop decreases-loop
-loop-again c = (search rules, simp length-set (omega arith), filled-turn _ _ _ _ _ c.before.loop.invariant.2 refl)
+loop-again c = (search rules, simp length-set (omega arith), filled_turn _ _ _ _ _ c.before.loop.invariant.2 refl)
 
 returns : tie.Need-returns invariant-loop decreases-loop
-returns c = filled-done _ _ _ _ _ c.before.loop.invariant.2 (omega arith) (omega arith)
+returns c = filled_done _ _ _ _ _ c.before.loop.invariant.2 (omega arith) (omega arith)
 
 pub blank-spec : {M : Type 1} → statement M
 blank-spec =

@@ -5,13 +5,13 @@ use Prim.Native.Nat.{◌≤◌, ◌-◌}
 use mathlib.Core.Path.{◌≡◌, sym, ap, ◌∙◌}
 use lib.ListN.{length, get_or, length-set}
 use Rattle.sheet.specs.Filled.{filled}
-use Rattle.sheet.specs.Laws.Filled.{filled_none, filled-turn, filled-done}
-use Rattle.tables.specs.Keys.{keyW, keyD}
+use Rattle.sheet.specs.Laws.Filled.{filled_none, filled_turn, filled_done}
+use Rattle.tables.specs.Keys.{key_w, key_d}
 use Rattle.tables.proofs.row.unpack.Statement.{statement}
 use Rattle.tables.proofs.row.unpack.Tie as tie
 
 abbrev invariant-loop : tie.invariant-loop
-invariant-loop n keys ws₀ ds₀ v₀ ws ds v = (v ≤ n) × (length ws ≡ length ws₀) × (length ds ≡ length ds₀) × (ws ≡ filled (λ v. keyW (get_or keys v 0)) v ws₀) × (ds ≡ filled (λ v. keyD (get_or keys v 0)) v ds₀)
+invariant-loop n keys ws₀ ds₀ v₀ ws ds v = (v ≤ n) × (length ws ≡ length ws₀) × (length ds ≡ length ds₀) × (ws ≡ filled (λ v. key_w (get_or keys v 0)) v ws₀) × (ds ≡ filled (λ v. key_d (get_or keys v 0)) v ds₀)
 
 abbrev decreases-loop : tie.decreases-loop
 decreases-loop n keys ws₀ ds₀ v₀ ws ds v = n - v
@@ -47,7 +47,7 @@ loop-less : tie.Need-loop-smaller invariant-loop decreases-loop
 loop-less c = search rules
 
 loop-again : tie.Need-loop-preserved invariant-loop decreases-loop
-loop-again c = (search rules, simp length-set (omega arith), simp length-set (omega arith), filled-turn _ _ _ _ _ c.before.before.before.before.loop.invariant.3 (c.before.registers-of.ensures ∙ ap keyW c.before.before.key-at.ensures), filled-turn _ _ _ _ _ c.before.before.before.before.loop.invariant.4 (c.delay-of.ensures ∙ ap keyD c.before.before.key-at.ensures))
+loop-again c = (search rules, simp length-set (omega arith), simp length-set (omega arith), filled_turn _ _ _ _ _ c.before.before.before.before.loop.invariant.3 (c.before.registers-of.ensures ∙ ap key_w c.before.before.key-at.ensures), filled_turn _ _ _ _ _ c.before.before.before.before.loop.invariant.4 (c.delay-of.ensures ∙ ap key_d c.before.before.key-at.ensures))
 
 same_length : tie.Need-same-length invariant-loop decreases-loop
 same_length c = search rules
@@ -56,7 +56,7 @@ same-length-2 : tie.Need-same-length-2 invariant-loop decreases-loop
 same-length-2 c = search rules
 
 returns : tie.Need-returns invariant-loop decreases-loop
-returns c = (filled-done _ _ _ _ _ c.before.loop.invariant.3 (omega arith) (omega arith), filled-done _ _ _ _ _ c.before.loop.invariant.4 (omega arith) (omega arith))
+returns c = (filled_done _ _ _ _ _ c.before.loop.invariant.3 (omega arith) (omega arith), filled_done _ _ _ _ _ c.before.loop.invariant.4 (omega arith) (omega arith))
 
 pub unpack-spec : {M : Type 1} → statement M
 unpack-spec =

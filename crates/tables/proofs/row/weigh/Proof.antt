@@ -5,13 +5,13 @@ use Prim.Native.Nat.{◌≤◌, ◌-◌}
 use mathlib.Core.Path.{◌≡◌, sym, ◌∙◌}
 use lib.ListN.{length, length-set}
 use Rattle.sheet.specs.Filled.{filled}
-use Rattle.sheet.specs.Laws.Filled.{filled_none, filled-turn, filled-done}
-use Rattle.tables.specs.Keys.{costAt}
+use Rattle.sheet.specs.Laws.Filled.{filled_none, filled_turn, filled_done}
+use Rattle.tables.specs.Keys.{cost_at}
 use Rattle.tables.proofs.row.weigh.Statement.{statement}
 use Rattle.tables.proofs.row.weigh.Tie as tie
 
 abbrev invariant-loop : tie.invariant-loop
-invariant-loop n m delays to registers costs₀ j₀ costs j = (j ≤ m) × (length costs ≡ length costs₀) × (costs ≡ filled (costAt delays to registers) j costs₀)
+invariant-loop n m delays to registers costs₀ j₀ costs j = (j ≤ m) × (length costs ≡ length costs₀) × (costs ≡ filled (cost_at delays to registers) j costs₀)
 
 abbrev decreases-loop : tie.decreases-loop
 decreases-loop n m delays to registers costs₀ j₀ costs j = m - j
@@ -44,10 +44,10 @@ loop-less : tie.Need-loop-smaller invariant-loop decreases-loop
 loop-less c = search rules
 
 loop-again : tie.Need-loop-preserved invariant-loop decreases-loop
-loop-again c = (search rules, simp length-set (omega arith), filled-turn _ _ _ _ _ c.before.before.before.before.before.loop.invariant.2 (c.cost-of.ensures ∙ rw (c.before.before.before.registers-at.ensures.0, c.before.delay-at.ensures.0, c.before.before.end-at.ensures.0)))
+loop-again c = (search rules, simp length-set (omega arith), filled_turn _ _ _ _ _ c.before.before.before.before.before.loop.invariant.2 (c.cost-of.ensures ∙ rw (c.before.before.before.registers_at.ensures.0, c.before.delay_at.ensures.0, c.before.before.end-at.ensures.0)))
 
 returns : tie.Need-returns invariant-loop decreases-loop
-returns c = filled-done _ _ _ _ _ c.before.loop.invariant.2 (omega arith) (omega arith)
+returns c = filled_done _ _ _ _ _ c.before.loop.invariant.2 (omega arith) (omega arith)
 
 pub weigh-spec : {M : Type 1} → statement M
 weigh-spec =

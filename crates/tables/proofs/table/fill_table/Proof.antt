@@ -4,7 +4,7 @@ use native.Mathlib.Omega.{arith}
 use mathlib.Core.Path.{◌≡◌}
 use Prim.Native.Nat.{◌≤◌, ◌-◌, ◌*◌, ◌+◌}
 use lib.ListN.{length}
-use Rattle.paths.specs.Lists.{listShape, held}
+use Rattle.paths.specs.Lists.{list_shape, held}
 use Rattle.tables.specs.Row.{Rows}
 use Rattle.paths.specs.Laws.Parts.{row_before, length_part}
 use Rattle.tables.specs.Laws.Tables.{rows_none, rows_more, rows_end}
@@ -12,7 +12,7 @@ use Rattle.tables.proofs.table.fill_table.Statement.{statement}
 use Rattle.tables.proofs.table.fill_table.Tie as tie
 
 abbrev invariant-loop : tie.invariant-loop
-invariant-loop n m delays from to registers costs ws₀ ds₀ u₀ ws ds u = (u ≤ n) × (length ws ≡ length ws₀) × (length ds ≡ length ds₀) × Rows (listShape n m delays from to) (held registers) u ws₀ ds₀ ws ds
+invariant-loop n m delays from to registers costs ws₀ ds₀ u₀ ws ds u = (u ≤ n) × (length ws ≡ length ws₀) × (length ds ≡ length ds₀) × Rows (list_shape n m delays from to) (held registers) u ws₀ ds₀ ws ds
 
 abbrev decreases-loop : tie.decreases-loop
 decreases-loop n m delays from to registers costs ws₀ ds₀ u₀ ws ds u = n - u
@@ -62,7 +62,7 @@ loop-less c = search rules
 
 loop-again : tie.Need-loop-preserved invariant-loop decreases-loop
 loop-again c = let p = rows_more _ _ _ (c.before.before.before.before.before.before.before.before.loop.u * c.before.before.before.before.before.before.before.before.before.before.before.args.n + c.before.before.before.before.before.before.before.before.before.before.before.args.n - c.before.before.before.before.before.before.before.before.loop.u * c.before.before.before.before.before.before.before.before.before.before.before.args.n) c.before.before.before.before.before.before.before.loop-test.true (omega arith) _ _ _ _ _ _ (omega (arith, c.before.before.before.before.before.before.before.before.before.before.before.requires.0.2)) (omega (arith, c.before.before.before.before.before.before.before.before.before.before.before.requires.0.3)) c.before.before.before.before.before.before.before.before.loop.invariant.3 c.before.before.before.before.fill-row.ensures in
-    (search rules, p.ws-kept.long, p.ds-kept.long, p)
+    (search rules, p.ws_kept.long, p.ds_kept.long, p)
 
 same_length : tie.Need-same-length invariant-loop decreases-loop
 same_length c = search rules

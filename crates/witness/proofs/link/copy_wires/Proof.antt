@@ -5,7 +5,7 @@ use mathlib.Core.Path.{◌≡◌, refl, ◌∙◌}
 use Prim.Native.Nat.{◌+◌, ◌-◌, ◌≤◌}
 use lib.ListN.{length, drop, length-set}
 use lib.Seq.{sets}
-use Rattle.witness.specs.Laws.Sets.{copy-turn, copy_done}
+use Rattle.witness.specs.Laws.Sets.{copy_turn, copy_done}
 use Rattle.witness.proofs.link.copy_wires.Statement.{statement}
 use Rattle.witness.proofs.link.copy_wires.Tie as tie
 
@@ -40,7 +40,7 @@ loop-less : tie.Need-loop-smaller invariant-loop decreases-loop
 loop-less c = search rules
 
 loop-again : tie.Need-loop-preserved invariant-loop decreases-loop
-loop-again c = (omega arith, omega arith, omega arith, length-set c.before.before.loop.words _ _ ∙ c.before.before.loop.invariant.3, copy-turn c.before.before.before.args.wires.now c.before.before.loop.words c.before.before.before.args.words.now c.before.before.loop.i _ _ _ c.before.before.before.args.first c.before.before.before.args.at (omega arith) c.before.before.loop.invariant.4 refl refl)
+loop-again c = (omega arith, omega arith, omega arith, length-set c.before.before.loop.words _ _ ∙ c.before.before.loop.invariant.3, copy_turn c.before.before.before.args.wires.now c.before.before.loop.words c.before.before.before.args.words.now c.before.before.loop.i _ _ _ c.before.before.before.args.first c.before.before.before.args.at (omega arith) c.before.before.loop.invariant.4 refl refl)
 
 same_length : tie.Need-same-length invariant-loop decreases-loop
 same_length c = search rules

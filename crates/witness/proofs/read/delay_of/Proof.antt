@@ -17,7 +17,7 @@ returns : tie.Need-returns
 returns c = absurd (block_refused c.before.before.before.before.args.s.now c.before.before.before.before.args.b c.before.before.read-block.result _ c.before.before.read-block.ensures c.enum_told.given.1 (c.before.before.before.before.requires.0.block c.before.before.before.before.args.b c.before.before.before.before.requires.1))
 
 returns-2 : tie.Need-returns-2
-returns-2 c = (block_read c.before.before.before.before.before.args.s.now c.before.before.before.before.before.args.b c.before.before.before.read-block.result _ _ _ c.before.before.before.read-block.ensures c.before.delay.given.1).0.delay-is
+returns-2 c = (block_read c.before.before.before.before.before.args.s.now c.before.before.before.before.before.args.b c.before.before.before.read-block.result _ _ _ c.before.before.before.read-block.ensures c.before.delay.given.1).0.delay_is
 
 pub delay-of-spec : {M : Type 1} → statement M
 delay-of-spec =
