@@ -1,4 +1,6 @@
 // Whether the sheet on standard input is sound, or its first refusal.
+#![tactic(auto)]
+
 mod verdict; // the question, and its line
 
 // One byte more than the longest sheet has, so that longer input is seen to be longer.

@@ -1,4 +1,6 @@
 // A sheet's rules as one table of keys: its path table for all start blocks at once, with the wires' ceilings folded in.
+#![tactic(auto)]
+
 ghost use Rattle.std.specs.Prelude.{◌≡◌, replicate};
 ghost use Rattle.sheet.specs.Core.{blocks_in, wires_in};
 ghost use Rattle.paths.specs.Questions.{SoundSheet};

@@ -1,4 +1,6 @@
 // Asks the library every question of a case file on standard input and writes the answers: second/README.md has both formats.
+#![tactic(auto)]
+
 mod solve; // the two lag questions, and whether a loop proves their refusal
 mod ask; // each question: what is asked and what is written
 mod cases; // the records of a case file, one after another

@@ -1,4 +1,6 @@
 // The path table as one key for each pair of blocks, filled for all start blocks at once.
+#![tactic(auto)]
+
 ghost use Rattle.std.specs.Prelude.{◌≡◌, ℕ, ◌+◌, ◌*◌, ◌-◌, ◌<◌, length};
 ghost use Rattle.paths.specs.Lists.{held, list_shape, Wires, Delays};
 ghost use Rattle.keys.specs.Keys.{Slow, Keyed, Folded, Turns};

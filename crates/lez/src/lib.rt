@@ -1,4 +1,6 @@
 // The seven questions with C names: the number is returned, place and value are written through pointers on every call.
+#![tactic(auto)]
+
 ghost use Rattle.std.specs.Prelude.{◌≡◌};
 ghost use Rattle.sheet.specs.Rules.{answer};
 ghost use Rattle.paths.specs.Questions.{CheckRight};

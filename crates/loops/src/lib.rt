@@ -1,4 +1,6 @@
 // Loops that prove a refusal: links, the loop check, what a loop rules out; the question check a loop.
+#![tactic(auto)]
+
 ghost use Rattle.std.specs.Prelude.{◌≡◌, ◌≤◌, length};
 ghost use Rattle.sheet.specs.Core.{core_of, blocks_in, wires_in};
 ghost use Rattle.sheet.specs.Rules.{First, Told};

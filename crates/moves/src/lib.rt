@@ -1,4 +1,6 @@
 // Lags and moves: permitted lags, the moved sheet, what moving leaves unchanged; the question move.
+#![tactic(auto)]
+
 ghost use Rattle.std.specs.Prelude.{◌≡◌};
 ghost use Rattle.sheet.specs.Core.{blocks_in, wires_in};
 ghost use Rattle.sheet.specs.Rules.{First};

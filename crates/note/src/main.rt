@@ -1,4 +1,6 @@
 // The delivery note of one sheet on standard input: its two periods, the lags that meet the best and every wire's registers.
+#![tactic(auto)]
+
 mod lines; // the note, line by line
 mod note; // the questions that it needs, and the first refusal
 

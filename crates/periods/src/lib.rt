@@ -1,5 +1,7 @@
 // Periods and lags: the period as it stands, from the longest register-free paths; lags at a period and best period, from
 // what the path table promises.
+#![tactic(auto)]
+
 ghost use Rattle.std.specs.Prelude.{◌≡◌};
 ghost use Rattle.sheet.specs.Core.{blocks_in, wires_in, registers_in, shape_of};
 ghost use Rattle.sheet.specs.Sheet.{Framed};

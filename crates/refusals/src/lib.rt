@@ -1,4 +1,6 @@
 // The loops of refusals 10 and 11: the solver that remembers which rule holds each block, run without path rules, then with those of a period.
+#![tactic(auto)]
+
 ghost use Rattle.std.specs.Prelude.{◌≡◌, ◌+◌, ◌*◌, ◌<◌, ◌≤◌, length};
 ghost use Rattle.sheet.specs.Core.{blocks_in, wires_in};
 ghost use Rattle.sheet.specs.Rules.{First, answer};

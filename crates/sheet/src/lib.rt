@@ -1,4 +1,6 @@
 // Bytes to core: a sheet's header, blocks and wires, its lags, and the answers that refuse it.
+#![tactic(auto)]
+
 pub mod answer; // what a question answers, and a stage of one
 pub mod bytes; // numbers in a slice of bytes
 pub mod number; // the larger and the lesser of two numbers

@@ -1,4 +1,6 @@
 // The solver: from the upper limits down to the largest lags that keep all rules, or to a rule that leaves none.
+#![tactic(auto)]
+
 ghost use Rattle.solver.specs.System.{Given, Within};
 ghost use Rattle.solver.specs.State.{State, Lists, Turned, AllHold, Settled};
 

@@ -1,1 +1,2 @@
 // 01's sums marked P, as one table with one theorem: specs/Lines.antt and specs/Laws/Table.antt. No code.
+#![tactic(auto)]

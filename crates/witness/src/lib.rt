@@ -1,4 +1,6 @@
 // The loop that proves a refusal, written from where the solver stopped.
+#![tactic(auto)]
+
 ghost use Rattle.std.specs.Prelude.{List, ℕ, ◌+◌, ◌*◌, ◌≤◌, length};
 ghost use Rattle.sheet.specs.Core.{core_of};
 ghost use Rattle.solver.specs.System.{Given};

@@ -1,7 +1,7 @@
 -- What the refusals 1, 2, 3, 5 and 6 leave is a formed sheet, and its core is formed; each refusal gives one answer.
 -- Assumes nothing.
 use Rattle.std.proofs.Common.{inl, inr, arith}
-use Rattle.std.specs.Prelude.{List, ℕ, ◌+◌, ◌*◌, ◌<◌, ◌≤◌, length, ℤ, pos, negsuc, ◌-ℤ◌, ◌≤ℤ◌}
+use Rattle.std.specs.Prelude.{List, ℕ, ◌+◌, ◌*◌, ◌<◌, length, ℤ, pos, negsuc, ◌-ℤ◌, ◌≤ℤ◌}
 use Rattle.std.proofs.Math.Decide.{dec_le, dec_lt, ℕ_discrete}
 use Rattle.std.proofs.Math.IntN.{ℤ_discrete}
 use Rattle.sheet.specs.Bytes.{u32_at}

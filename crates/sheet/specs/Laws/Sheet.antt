@@ -1,6 +1,6 @@
 -- A sheet's rules on integers and on excess numbers are the same; what the rules leave is a formed sheet.
 -- Assumes nothing.
-use Rattle.std.specs.Prelude.{◌≡◌, refl, ◌⊎◌, List, ℕ, ◌+◌, ◌-◌, ◌%◌, ◌<◌, ◌≤◌, length, ℤ, pos, negsuc, ◌-ℤ◌}
+use Rattle.std.specs.Prelude.{◌≡◌, refl, ◌⊎◌, List, ℕ, ◌+◌, ◌%◌, ◌<◌, ◌≤◌, length, ℤ, pos, negsuc, ◌-ℤ◌}
 use Rattle.std.proofs.Common.{ap, ◌∙◌, subst, inl, inr, arith, to_z}
 use Rattle.std.specs.Int.Signed.{mag}
 use Rattle.std.specs.Int.{w16}
