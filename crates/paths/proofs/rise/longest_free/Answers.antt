@@ -1,0 +1,9 @@
+-- The highest of the heights is the period, whether or not the last sweep changed nothing.
+use Rattle.paths.specs.Laws.Rise.{highest_period}
+use Rattle.paths.proofs.rise.longest_free.Goals as goal
+
+pub highest-requires : goal.highest-requires
+highest-requires c = (c.requires.wires.0.some_block, c.requires.wires.0.few_blocks, c.rise.ensures.long)
+
+pub returns : goal.returns
+returns c = highest_period _ _ c.requires.by_index _ _ _ c.rise.ensures c.highest.ensures
