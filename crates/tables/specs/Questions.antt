@@ -1,5 +1,5 @@
 -- The question path table: its promise, of the input, the lent lists before, and the outcome.
-use Rattle.std.specs.Prelude.{◌≡◌, List, [], ◌∷◌, ◌++◌, ℕ, ◌+◌, ◌*◌, length}
+use Rattle.std.specs.Prelude.{◌≡◌, List, [], ◌∷◌, ◌++◌, ℕ, ◌*◌, length}
 use Rattle.sheet.specs.Core.{blocks_in, registers_in, shape_of}
 use Rattle.sheet.specs.Rules.{Rule, First, answer, stage}
 use Rattle.sheet.specs.Sheet.{frame_rules}

@@ -6,7 +6,7 @@ use Rattle.std.proofs.Math.Decide.{ℕ_discrete, dec_lt}
 use Rattle.sheet.specs.Core.{blocks_in, registers_in, shape_of}
 use Rattle.sheet.specs.Rules.{Rule, First, None, answer, stage}
 use Rattle.sheet.specs.Sheet.{Framed, frame_rules}
-use Rattle.sheet.specs.Laws.Rules.{agree, tight_both, ends, goes_on, stage_exact, refusal_exact, past, past_stage}
+use Rattle.sheet.specs.Laws.Rules.{agree, tight_both, ends, goes_on, stage_exact, refusal_exact, past_stage}
 use Rattle.sheet.specs.Laws.Sheet.{framed_none}
 use Rattle.sheet.specs.Laws.Formed.{frame_exact, frame_nonzero}
 use Rattle.sheet.specs.declared.answer.Answer.{Answer}

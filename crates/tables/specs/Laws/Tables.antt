@@ -1,6 +1,6 @@
 -- The table, one row after the other.
 -- Assumes nothing.
-use Rattle.std.specs.Prelude.{◌≡◌, refl, List, ℕ, ◌+◌, ◌*◌, ◌-◌, ◌≤◌, ◌<◌, length, get_or}
+use Rattle.std.specs.Prelude.{◌≡◌, refl, List, ℕ, ◌+◌, ◌*◌, ◌≤◌, ◌<◌, length, get_or}
 use Rattle.std.proofs.Common.{◌∙◌, subst, arith}
 use borrow.Author.Count.{below_more}
 use Rattle.sheet.specs.Core.{Shape}
