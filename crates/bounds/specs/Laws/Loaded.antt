@@ -14,7 +14,8 @@ use Rattle.paths.specs.Lists.{held, list_shape}
 use Rattle.paths.specs.Table.{Way}
 use Rattle.paths.specs.Questions.{SoundSheet}
 use Rattle.paths.specs.Laws.Path.{joins_start_lt, joins_end_lt}
-use Rattle.paths.specs.Laws.Same.{same_sym, joins_same, registers_same, delay_same, way_same}
+use Rattle.paths.specs.Laws.Same.{same_sym, joins_same, registers_same}
+use Rattle.paths.proofs.Delays.{delay_same, way_same}
 use Rattle.paths.specs.Laws.Loaded.{Loaded}
 use Rattle.keys.specs.Keys.{Loose, Slow, Keyed, Folded}
 use Rattle.bounds.specs.Ruled.{Key, loose, path, ceiling, Ruled}

@@ -7,7 +7,8 @@ use Rattle.sheet.specs.Core.{Core, Shape}
 use Rattle.sheet.specs.Sheet.{Formed}
 use Rattle.paths.specs.Path.{Joins, registers_on, delay_on, end_of}
 use Rattle.paths.specs.Table.{LoopAt}
-use Rattle.paths.specs.Laws.Path.{joins_left, joins_right, registers_snoc, delay_append}
+use Rattle.paths.specs.Laws.Path.{joins_left, joins_right, registers_snoc}
+use Rattle.paths.proofs.Delays.{delay_append}
 use Rattle.tables.specs.Laws.Entry.{fewest_short}
 use Rattle.tables.specs.Laws.Small.{delay_small}
 

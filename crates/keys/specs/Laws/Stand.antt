@@ -5,9 +5,10 @@ use Rattle.std.proofs.Common.{sym, ap, subst, inl, inr, arith}
 use Rattle.sheet.specs.Core.{Shape}
 use Rattle.paths.specs.Path.{Joins, registers_on, delay_on}
 use Rattle.paths.specs.Table.{Way}
-use Rattle.paths.specs.Laws.Path.{passes_all, registers_snoc, delay_snoc, between_passes, joins_snoc, joins_start_lt, joins_end_lt}
-use Rattle.paths.specs.Laws.Way.{Limits}
-use Rattle.paths.specs.Laws.Way.{way_more, way_start}
+use Rattle.paths.specs.Laws.Path.{passes_all, registers_snoc, between_passes, joins_snoc, joins_start_lt, joins_end_lt}
+use Rattle.paths.proofs.Delays.{delay_snoc}
+use Rattle.paths.proofs.Way.{Limits}
+use Rattle.paths.proofs.Way.{way_more, way_start}
 use Rattle.keys.specs.Keys.{entry, Loose, Slow, Keyed}
 use Rattle.keys.specs.Filling.{Blank, Within, Lanes, Stand, Stand.way, Stand.far, Stand.sunk, Standing, Holds}
 

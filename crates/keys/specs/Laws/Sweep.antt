@@ -5,7 +5,7 @@ use Rattle.std.proofs.Common.{sym, ap, ◌∙◌, subst, inl, inr, arith, below_
 use Rattle.std.proofs.lemmas.List.{length-replicate, get_or-replicate}
 use Rattle.sheet.specs.Core.{Shape}
 use Rattle.paths.specs.Lists.{held, list_shape, Wires, Delays}
-use Rattle.paths.specs.Laws.Way.{Limits}
+use Rattle.paths.proofs.Way.{Limits}
 use Rattle.keys.specs.Keys.{entry, Turns}
 use Rattle.keys.specs.Filling.{Blank, Lanes, Counts, spot_at, turn_at, News, Stepped, Stepped.idle, Stepped.tried, Standing, Holds, Settling, Sweeping, Swept}
 use Rattle.sheet.specs.Laws.Sum.{sum}

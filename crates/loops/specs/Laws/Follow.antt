@@ -7,7 +7,8 @@ use Rattle.sheet.specs.Core.{shape_of, blocks_in, wires_in, delay_in, from_in, t
 use Rattle.sheet.specs.Laws.Integer.{minus}
 use Rattle.sheet.specs.Reads.{BlockIs, WireIs}
 use Rattle.paths.specs.Path.{Joins, registers_on, end_of}
-use Rattle.paths.specs.Laws.Path.{passes_all, between_passes, joins_snoc, joins_end, joins_right, joins_start_lt, registers_snoc, delay_snoc}
+use Rattle.paths.specs.Laws.Path.{passes_all, between_passes, joins_snoc, joins_end, joins_right, joins_start_lt, registers_snoc}
+use Rattle.paths.proofs.Delays.{delay_snoc}
 use Rattle.loops.specs.Link.{path}
 use Rattle.loops.specs.Reads.{PathHead, LinkGiven, StepIs, StepGiven, Followed, FollowGiven}
 use Rattle.loops.specs.Laws.Links.{not_good}

@@ -8,7 +8,8 @@ use Rattle.sheet.specs.Laws.Integer.{up, down, plus, minus, le_parts, parts_le, 
 use Rattle.paths.specs.Path.{Joins, registers_on}
 use Rattle.paths.specs.Table.{LoopAt, Entry, best, none, Sound}
 use Rattle.paths.specs.Laws.Simple.{shorten}
-use Rattle.paths.specs.Laws.Same.{SameWires, SameDelays, same_sym, joins_same, loop_same, entry_same, delay_same}
+use Rattle.paths.specs.Laws.Same.{SameWires, SameDelays, same_sym, joins_same, loop_same}
+use Rattle.paths.proofs.Delays.{entry_same, delay_same}
 use Rattle.moves.specs.Lags.{moved_by, InRange, Permitted, Meets, Moved}
 use Rattle.moves.specs.Laws.Lags.{telescope, path_moved, loop_back, best_moved}
 

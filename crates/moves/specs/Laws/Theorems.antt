@@ -1,21 +1,20 @@
 -- Demands 2 and 3 as far as moves go, on bytes, through the questions' own promises.
 -- Assumes nothing.
 use Rattle.std.specs.Prelude.{◌≡◌, refl, ◌↔◌, List, [], ◌∷◌, ◌++◌, ℕ, ◌+◌, ◌*◌, ◌≤◌, ◌<◌, ℤ, pos, ◌+ℤ◌, ◌-ℤ◌, length, get_or, take}
-use Rattle.std.proofs.Common.{sym, ap, ◌∙◌, subst, inl, inr, arith, ext_get_or, get_or-take}
-use Rattle.std.proofs.Math.Decide.{dec_lt}
+use Rattle.std.proofs.Common.{sym, ap, ◌∙◌, subst, inl, inr, arith}
 use Rattle.std.specs.Int.Signed.{mag}
 use Rattle.sheet.specs.Core.{core_of, blocks_in, lower_in, upper_in, from_in, to_in, registers_in}
-use Rattle.sheet.specs.Rules.{Rule, First, Tight, Exact, answer, stage}
+use Rattle.sheet.specs.Rules.{Rule, First, answer, stage}
 use Rattle.sheet.specs.Sheet.{FormedSheet, frame_rules}
-use Rattle.sheet.specs.Laws.Rules.{agree, tight_both, exact_tight, stage_exact, refusal_exact, place_exact, skip_stage, past_stage, NonZero, place_nonzero}
+use Rattle.sheet.specs.Laws.Rules.{skip_stage, past_stage, NonZero, place_nonzero}
 use Rattle.sheet.specs.Laws.Sheet.{framed_none}
-use Rattle.sheet.specs.Laws.Formed.{formed_core, frame_exact, frame_nonzero}
+use Rattle.sheet.specs.Laws.Formed.{formed_core, frame_nonzero}
 use Rattle.sheet.specs.declared.answer.Answer.{Answer}
 use Rattle.paths.specs.Path.{Step, Walks, walked}
 use Rattle.paths.specs.Table.{Entry, best, none}
 use Rattle.paths.specs.Questions.{SoundSheet, sound_rules, room_rules, CheckRight}
 use Rattle.tables.specs.Questions.{TableOutcome, TableRight}
-use Rattle.paths.specs.Laws.Questions.{sound_exact, sound_nonzero, room_nonzero, sound_sheet, sheet_sound, sound_checks}
+use Rattle.paths.specs.Laws.Questions.{sound_nonzero, room_nonzero, sound_sheet, sheet_sound, sound_checks}
 use Rattle.tables.specs.Laws.Questions.{table_means}
 use Rattle.tables.specs.Laws.Entry.{entry_unique}
 use Rattle.paths.specs.Laws.Same.{same_sym, joins_same}
@@ -33,32 +32,20 @@ lag_nonzero : (s : List ℕ) (r : ℕ → ℤ) → NonZero (lag_rules s r)
 lag_nonzero s r = (place_nonzero _ _ (λ b. answer 8 b 0) (λ b. omega arith), (place_nonzero _ _ (λ j. answer 9 j 0) (λ j. omega arith), tt))
 
 module _ (s : List ℕ) (lags : List ℤ) (l : List ℕ) where
-  abbrev keep : Answer → MoveOutcome
+  abbrev pub keep : Answer → MoveOutcome
   keep a = move_outcome a l
 
-  abbrev says : MoveOutcome → Answer
+  abbrev pub says : MoveOutcome → Answer
   says o = o.says
 
-  abbrev room : List (Rule Answer)
+  abbrev pub room : List (Rule Answer)
   room = room_rules (length lags) (blocks_in s) (length l) (length s)
 
-  abbrev last : List (Rule MoveOutcome)
+  abbrev pub last : List (Rule MoveOutcome)
   last = record { when = Unit {0}; gives = MoveDone s (lags_in lags) l } ∷ []
 
-  abbrev after_sound : List (Rule MoveOutcome)
+  abbrev pub after_sound : List (Rule MoveOutcome)
   after_sound = stage keep (lag_rules s (lags_in lags)) ++ last
-
-  -- two moved sheets in two lists that kept the rest are one list
-  same_moved : (o p : MoveOutcome) → MoveDone s (lags_in lags) l o → MoveDone s (lags_in lags) l p → FormedSheet s → o ≡ p
-  same_moved o p a b f =
-      let e = moved_unique s f (lags_in lags) (take (length s) o.moved) (take (length s) p.moved) a.moved_sheet b.moved_sheet in
-      let g : o.moved ≡ p.moved =
-      ext_get_or 0 o.moved p.moved (a.rest.long ∙ sym b.rest.long)
-      (λ i h. elim (dec_lt i (length s)) [
-        | yes k ↦ sym (get_or-take (length s) o.moved i 0 k) ∙ ap (λ (x : List ℕ). get_or x i 0) e ∙ get_or-take (length s) p.moved i 0 k
-        | no k ↦ a.rest.past i (omega arith) ∙ sym (b.rest.past i (omega arith))
-      ]) in
-      ap (λ (x : Answer). move_outcome x o.moved) (a.says_done ∙ sym b.says_done) ∙ ap (move_outcome p.says) g
 
   -- ---- what an answer 0 means
   pub record MoveMeans (o : MoveOutcome) : Type 0 where
@@ -77,33 +64,6 @@ module _ (s : List ℕ) (lags : List ℤ) (l : List ℕ) where
       let t = past_stage keep says (λ a. refl) (sound_rules s) after_sound o (sound_nonzero s) z q.1 in
       let k = past_stage keep says (λ a. refl) (lag_rules s (lags_in lags)) last o (lag_nonzero s (lags_in lags)) z t.1 in
       record { sound = sound_sheet s p.0 t.0; permitted = none_permitted s (lags_in lags) k.0; done = last_done o k.1 }
-
--- ---- T7: two outcomes of one move are one
-module _ (s : List ℕ) (lags : List ℤ) (l : List ℕ) where
-  -- an answer 0 says that the sheet is formed, and then the moved sheet is one
-  Like : MoveOutcome → MoveOutcome → Type 0
-  Like o p = (o.says.number ≡ 0 → FormedSheet s) → o ≡ p
-
-  done_like : (o p : MoveOutcome) → MoveDone s (lags_in lags) l o → MoveDone s (lags_in lags) l p → Like o p
-  unfolding Like
-  done_like o p a b f = same_moved s lags l o p a b (f (ap (λ (x : Answer). x.number) a.says_done))
-
-  exactly : (rs : List (Rule Answer)) → Exact rs → Tight Like (stage (keep s lags l) rs)
-  unfolding Like
-  exactly rs e = exact_tight Like (λ o f. refl) (stage (keep s lags l) rs) (stage_exact (keep s lags l) rs e)
-
-  pub move_agrees : (o p : MoveOutcome) → MoveRight s lags l o → MoveRight s lags l p → o ≡ p
-  unfolding Like
-  move_agrees o p h k =
-      agree Like (stage (keep s lags l) (frame_rules s) ++ move_after_frame s lags l)
-      (tight_both Like (stage (keep s lags l) (frame_rules s)) (move_after_frame s lags l) (exactly (frame_rules s) (frame_exact s))
-      (tight_both Like (stage (keep s lags l) (room s lags l)) (stage (keep s lags l) (sound_rules s) ++ after_sound s lags l)
-      (exactly (room s lags l) (refusal_exact (answer 4 0 0), (refusal_exact (answer 4 1 0), tt)))
-      (tight_both Like (stage (keep s lags l) (sound_rules s)) (after_sound s lags l) (exactly (sound_rules s) (sound_exact s))
-      (tight_both Like (stage (keep s lags l) (lag_rules s (lags_in lags))) (last s lags l)
-      (exactly (lag_rules s (lags_in lags)) (place_exact _ _ _, (place_exact _ _ _, tt)))
-      (done_like, tt)))))
-      o p h k (λ z. (move_means s lags l o h z).sound.formed)
 
 -- a lag outside its range is refused with 8
 first_eight : (s : List ℕ) (t : List ℤ) (l : List ℕ) (o : MoveOutcome) (b : ℕ) → b < blocks_in s → (InRange (core_of s) (lags_in t) b → ⊥)

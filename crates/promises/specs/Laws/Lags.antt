@@ -9,7 +9,8 @@ use Rattle.sheet.specs.Sheet.{Formed}
 use Rattle.sheet.specs.Laws.Integer.{up, plus, minus, le_parts, parts_le, parts_eq}
 use Rattle.paths.specs.Path.{Joins, registers_on, delay_on}
 use Rattle.paths.specs.Table.{Best, Entry, best, none, Period}
-use Rattle.paths.specs.Laws.Same.{same_sym, joins_same, delay_same}
+use Rattle.paths.specs.Laws.Same.{same_sym, joins_same}
+use Rattle.paths.proofs.Delays.{delay_same}
 use Rattle.paths.specs.Laws.Path.{joins_start_lt, joins_end_lt}
 use Rattle.moves.specs.Lags.{moved_by, Permitted, MovedTo, Meets, Moved}
 use Rattle.moves.specs.Laws.Lags.{telescope}

@@ -14,7 +14,8 @@ use Rattle.paths.specs.Table.{Period, Way, Entry, best, none, Table}
 use Rattle.paths.specs.Questions.{sound_rules}
 use Rattle.paths.specs.Laws.Path.{joins_start_lt, joins_end_lt}
 use Rattle.paths.specs.Laws.Questions.{sound_exact}
-use Rattle.paths.specs.Laws.Same.{SameWires, SameDelays, same_sym, joins_same, registers_same, delay_same}
+use Rattle.paths.specs.Laws.Same.{SameWires, SameDelays, same_sym, joins_same, registers_same}
+use Rattle.paths.proofs.Delays.{delay_same}
 use Rattle.promises.specs.Questions.{PeriodDone, PeriodRight}
 
 -- ---- T2

@@ -11,11 +11,12 @@ use Rattle.paths.specs.Lists.{held}
 use Rattle.paths.specs.Table.{LoopAt, Best, Entry, best, none}
 use Rattle.tables.specs.Back.{Completed}
 use Rattle.tables.specs.Row.{base_w, offer_w, offer_d, Row, Relaxed}
-use Rattle.paths.specs.Laws.Path.{passes_all, joins_left, joins_right, joins_start_lt, joins_ends, joins_snoc, between_passes, registers_append, registers_snoc, delay_snoc, Last, nil, snoc, last}
+use Rattle.paths.specs.Laws.Path.{passes_all, joins_left, joins_right, joins_start_lt, joins_ends, joins_snoc, between_passes, registers_append, registers_snoc, Last, nil, snoc, last}
+use Rattle.paths.proofs.Delays.{delay_snoc}
 use Rattle.paths.specs.Laws.Pigeons.{NotIn, NoDup, pigeons}
 use Rattle.tables.specs.Laws.Ahead.{Ahead, ahead_or}
 use Rattle.paths.specs.Laws.Simple.{passed, passed_below, length_passed, Leads, leads, Loop, simple_or_loop, cut_joins, cut_fewer, cut}
-use Rattle.paths.specs.Laws.Way.{Limits}
+use Rattle.paths.proofs.Way.{Limits}
 use Rattle.tables.specs.Laws.Relax.{Part, part_start, part_next, part_end}
 use Rattle.tables.specs.Laws.Filling.{Filling, filling_start, filling_turn, filling_ends}
 

@@ -10,8 +10,8 @@ use Rattle.paths.specs.Table.{LoopAt, Way}
 use Rattle.tables.specs.Row.{Row, Round, Rounded, RowRight}
 use Rattle.tables.specs.Laws.Ahead.{Ahead, level}
 use Rattle.tables.specs.Laws.Rows.{Covers, covers_start, covers_next, covers_still, covered_entry}
-use Rattle.paths.specs.Laws.Way.{way_start}
-use Rattle.paths.specs.Laws.Way.{Limits}
+use Rattle.paths.proofs.Way.{way_start}
+use Rattle.paths.proofs.Way.{Limits}
 use Rattle.tables.specs.Laws.Relax.{entry}
 
 -- a row after `done` rounds

@@ -3,14 +3,14 @@
 use Rattle.std.specs.Prelude.{◌≡◌, refl, Bool, true, false, ◌⊎◌, List, ℕ, ◌+◌, ◌*◌, ◌≤◌, ◌<◌, length, get_or, set}
 use Rattle.std.proofs.Common.{sym, ap, ◌∙◌, subst, inl, arith, below_more, length-set, get_or-set_same, get_or-set_other}
 use Rattle.std.proofs.Math.Decide.{ℕ_discrete}
-use Rattle.paths.specs.Laws.Way.{Limits}
+use Rattle.paths.proofs.Way.{Limits}
 use Rattle.sheet.specs.Core.{Shape}
 use Rattle.paths.specs.Lists.{held}
 use Rattle.paths.specs.Table.{Way}
 use Rattle.tables.specs.Row.{base_w, offer_w, offer_d, Row, Relaxed, Round, Rounded}
 use Rattle.tables.specs.Laws.Ahead.{Ahead, ahead_registers, ahead_refl, ahead_trans, ahead_add}
 use Rattle.tables.specs.Laws.Rows.{base_way, base_few, base_small, base_ahead}
-use Rattle.paths.specs.Laws.Way.{way_more}
+use Rattle.paths.proofs.Way.{way_more}
 
 -- ---- a fact on each entry after two stores at t: on what was stored, and on each other entry as it was
 entry_by : (P : ℕ → ℕ → ℕ → Type 0) (ws ds : List ℕ) (t x y : ℕ) → t < length ws → t < length ds → P t x y

@@ -3,13 +3,14 @@
 use Rattle.std.specs.Prelude.{◌≡◌, refl, cond, ◌⊎◌, List, [], ◌∷◌, ℕ, zero, suc, ◌+◌, ◌*◌, ◌≤◌, ◌<◌, eqb, length}
 use Rattle.std.proofs.Common.{inl, inr, arith, add-zero, eq-eqb, ne_eqb, length-append}
 use Rattle.std.proofs.Math.Decide.{ℕ_discrete}
-use Rattle.paths.specs.Laws.Way.{way_start}
+use Rattle.paths.proofs.Way.{way_start}
 use Rattle.sheet.specs.Core.{Shape}
 use Rattle.paths.specs.Path.{Joins, registers_on, delay_on}
 use Rattle.paths.specs.Lists.{held}
 use Rattle.paths.specs.Table.{LoopAt, Way, Entry, best, none}
 use Rattle.tables.specs.Row.{base_w, base_d, Row, Round}
-use Rattle.paths.specs.Laws.Path.{joins_end_lt, joins_ends, registers_snoc, delay_snoc, Between, Last, nil, snoc, last}
+use Rattle.paths.specs.Laws.Path.{joins_end_lt, joins_ends, registers_snoc, Between, Last, nil, snoc, last}
+use Rattle.paths.proofs.Delays.{delay_snoc}
 use Rattle.tables.specs.Laws.Ahead.{Ahead, fewer, ahead_registers, ahead_delay, ahead_refl, ahead_trans, ahead_add, ahead_as}
 use Rattle.paths.specs.Laws.Simple.{Loop, passed, simple_or_loop, simple_short, cut, cut_joins, cut_fewer, shorten}
 use Rattle.paths.specs.Laws.Pigeons.{NoDup}

@@ -7,7 +7,8 @@ use Rattle.sheet.specs.Core.{Shape}
 use Rattle.paths.specs.Table.{Entry, Table}
 use Rattle.paths.specs.Questions.{KeptFrom}
 use Rattle.tables.specs.Row.{RowRight, Rows}
-use Rattle.paths.specs.Laws.Same.{SameWires, SameDelays, entry_same}
+use Rattle.paths.specs.Laws.Same.{SameWires, SameDelays}
+use Rattle.paths.proofs.Delays.{entry_same}
 use Rattle.paths.specs.Laws.Parts.{row_before, back, length_back, before_part, within_part, after_part}
 
 pub kept_all : (k : ℕ) (l : List ℕ) → KeptFrom k l l

@@ -4,7 +4,7 @@ use Prim.Native.Nat.{ℕ, ◌≤◌, ◌-◌}
 use mathlib.Core.Path.{◌≡◌, ap}
 use lib.ListN.{length, get_or}
 use Rattle.paths.specs.Lists.{held, list_shape}
-use Rattle.paths.specs.Laws.Way.{limits}
+use Rattle.paths.proofs.Way.{limits}
 use Rattle.keys.specs.Filling.{turn_at, Sweeping}
 use Rattle.keys.specs.Laws.Stand.{standing_within}
 use Rattle.keys.specs.Laws.Sweep.{settling_counts, sweep_none, sweep_turn, sweep_ends, stepped_few}

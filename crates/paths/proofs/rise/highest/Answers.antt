@@ -2,7 +2,7 @@
 use borrow.Author.Rules.{rules}
 use native.Mathlib.Omega.{arith}
 use mathlib.Core.Path.{◌≡◌}
-use Rattle.paths.specs.Laws.Rise.{highest_first, highest_next}
+use Rattle.paths.proofs.Heights.{highest_first, highest_next}
 use Rattle.paths.proofs.rise.highest.Goals as goal
 
 pub loop-v-init : goal.loop-v-init

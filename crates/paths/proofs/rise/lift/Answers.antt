@@ -1,7 +1,7 @@
 -- The store keeps the larger of both heights, and the test tells which one it is.
 use mathlib.Core.Path.{refl, ap}
 use lib.ListN.{set}
-use Rattle.paths.specs.Laws.Rise.{lifted}
+use Rattle.paths.proofs.Heights.{lifted}
 use Rattle.paths.proofs.rise.lift.Goals as goal
 
 pub returns : goal.returns

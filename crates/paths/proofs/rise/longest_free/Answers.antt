@@ -1,5 +1,5 @@
 -- The highest of the heights is the period, whether or not the last sweep changed nothing.
-use Rattle.paths.specs.Laws.Rise.{highest_period}
+use Rattle.paths.proofs.Heights.{highest_period}
 use Rattle.paths.proofs.rise.longest_free.Goals as goal
 
 pub highest-requires : goal.highest-requires

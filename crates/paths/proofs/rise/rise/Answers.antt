@@ -4,7 +4,7 @@ use native.Mathlib.Omega.{arith}
 use mathlib.Core.Path.{refl}
 use Prim.Native.Nat.{ℕ}
 use lib.ListN.{length-replicate}
-use Rattle.paths.specs.Laws.Rise.{heights_start, covered_start, heights_more, covered_more, covered_less, risen_still, risen_end, risen_above}
+use Rattle.paths.proofs.Heights.{heights_start, covered_start, heights_more, covered_more, covered_less, risen_still, risen_end, risen_above}
 use Rattle.paths.proofs.rise.rise.Goals as goal
 
 pub free_wires-k-requires : goal.free_wires-k-requires

@@ -3,8 +3,8 @@ use borrow.Author.Rules.{rules}
 use native.Mathlib.Omega.{arith}
 use mathlib.Core.Path.{◌≡◌, refl, sym, ◌∙◌}
 use mathlib.Core.Bool.{true≢false}
-use Rattle.paths.specs.Laws.Rise.{trying_start, trying_next, swept}
-use Rattle.paths.specs.Laws.Way.{limits}
+use Rattle.paths.proofs.Heights.{trying_start, trying_next, swept}
+use Rattle.paths.proofs.Way.{limits}
 use Rattle.paths.proofs.rise.sweep.Goals as goal
 use Rattle.paths.proofs.rise.sweep.Goals.{then-lift, else-lift}
 

@@ -3,7 +3,7 @@ use borrow.Author.Rules.{rules}
 use native.Mathlib.Omega.{arith}
 use lib.ListN.{length-set}
 use borrow.Author.Count.{below_none}
-use Rattle.paths.specs.Laws.Rise.{listed_turned, turned_next}
+use Rattle.paths.proofs.Heights.{listed_turned, turned_next}
 use Rattle.paths.proofs.rise.turned.Goals as goal
 
 pub loop-i-init : goal.loop-i-init

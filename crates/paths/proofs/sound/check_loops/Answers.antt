@@ -3,7 +3,7 @@ use native.Mathlib.Omega.{arith}
 use lib.ListN.{replicate, length-replicate}
 use Prim.Native.Nat.{ℕ}
 use Rattle.paths.specs.Laws.Loaded.{wires_held, wires_same, loop_found, loop_none}
-use Rattle.paths.specs.Laws.Rise.{ones_held, settled_none}
+use Rattle.paths.proofs.Heights.{ones_held, settled_none}
 use Rattle.paths.proofs.sound.check_loops.Goals as goal
 
 pub rise-requires : goal.rise-requires

@@ -4,7 +4,7 @@ use native.Mathlib.Omega.{arith}
 use mathlib.Core.Path.{sym, ◌∙◌}
 use mathlib.Core.Bool.{true≢false}
 use Rattle.tables.specs.Laws.Relax.{part_start, part_next, part_end, row_more}
-use Rattle.paths.specs.Laws.Way.{limits}
+use Rattle.paths.proofs.Way.{limits}
 use Rattle.tables.proofs.row.round.Goals as goal
 use Rattle.tables.proofs.row.round.Goals.{then-relax, else-relax}
 

@@ -6,7 +6,7 @@ use mathlib.Core.List.{List}
 use Prim.Native.Nat.{ℕ}
 use lib.ListN.{length, set}
 use Rattle.tables.specs.Keys.{key_w, key_d}
-use Rattle.paths.specs.Laws.Way.{limits}
+use Rattle.paths.proofs.Way.{limits}
 use Rattle.tables.specs.Laws.Filling.{filling_start, filling_turn, filling_stops, filling_ends}
 use Rattle.tables.specs.Laws.Keys.{length_decoded, cleared_whole, cleared_w, cleared_d}
 use Rattle.sheet.specs.Laws.Filled.{length_filled}

@@ -11,12 +11,13 @@ use Rattle.paths.specs.Lists.{held, list_shape, Wires, Delays}
 use Rattle.paths.specs.Table.{LoopAt, Way, Period}
 use Rattle.paths.specs.Questions.{loop_rules}
 use Rattle.paths.specs.Rise.{Stands, Listed, Lifted, Highest, Ending, Heights, offered, Trying, Swept, Covered, Settled, Risen}
-use Rattle.paths.specs.Laws.Path.{joins_start_lt, joins_end_lt, joins_ends, registers_snoc, delay_snoc, Last, nil, snoc, last}
+use Rattle.paths.specs.Laws.Path.{joins_start_lt, joins_end_lt, joins_ends, registers_snoc, Last, nil, snoc, last}
+use Rattle.paths.proofs.Delays.{delay_snoc}
 use Rattle.paths.specs.Laws.Simple.{Loop, passed, simple_or_loop, simple_short, cut_registers, loop_at}
 use Rattle.paths.specs.Laws.Pigeons.{NoDup}
 use Rattle.paths.specs.Laws.Same.{SameWires, same_sym, loop_same}
-use Rattle.paths.specs.Laws.Way.{Limits}
-use Rattle.paths.specs.Laws.Way.{way_start, way_more}
+use Rattle.paths.proofs.Way.{Limits}
+use Rattle.paths.proofs.Way.{way_start, way_more}
 
 -- ---- the listed wires
 pub listed_none : (w : ℕ → ℕ) (list : List ℕ) → length list ≡ 256 → Listed w 0 0 list
