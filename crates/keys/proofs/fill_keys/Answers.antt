@@ -1,0 +1,11 @@
+-- Every sweep but the last lowers the sum of the keys; after it all wires hold.
+use native.Mathlib.Omega.{arith}
+use Rattle.keys.specs.Laws.Stand.{keyed}
+use Rattle.keys.specs.Laws.Sweep.{settling_start}
+use Rattle.keys.proofs.fill_keys.Goals as goal
+
+pub loop-versions-init : goal.loop-versions-init
+loop-versions-init c = settling_start c.requires.0 c.blank.ensures
+
+pub returns : goal.returns
+returns c = let S = c.sweep.ensures in keyed _ _ c.requires.0.few_blocks c.requires.3 S.settling.standing (S.ended (omega arith))
