@@ -1,5 +1,5 @@
 -- Loops that prove a refusal: links of five kinds, their rules, and valid loops.
-use Rattle.std.specs.Prelude.{◌≡◌, List, [], ◌∷◌, ◌++◌, ℕ, ◌+◌, ◌≤◌, ◌<◌, ℤ, pos, neg_ℤ, ◌+ℤ◌, ◌-ℤ◌, ◌<ℤ◌, length}
+use Rattle.std.specs.Prelude.{◌≡◌, List, [], ◌∷◌, ◌++◌, ℕ, ◌≤◌, ◌<◌, ℤ, pos, neg_ℤ, ◌+ℤ◌, ◌-ℤ◌, ◌<ℤ◌, length}
 use Rattle.sheet.specs.Core.{Core}
 use Rattle.paths.specs.Path.{Joins, registers_on, delay_on, end_of}
 

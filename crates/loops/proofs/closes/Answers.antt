@@ -1,6 +1,5 @@
 -- The links read so far are a chain; where they end, no valid loop could have read otherwise.
 use native.Mathlib.Omega.{arith}
-use Prim.Native.Nat.{◌-◌}
 use Rattle.loops.specs.Laws.Links.{link_read, link_refused}
 use Rattle.loops.specs.Laws.Chain.{chained_first, chained_next, chained_stuck, chained_broken, chained_open, chained_heavy, chained_valid}
 use Rattle.loops.proofs.closes.Goals as goal

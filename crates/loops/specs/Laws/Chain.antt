@@ -1,6 +1,6 @@
 -- A loop read link by link: what the words so far say, and why a refused list of words is no valid loop.
 -- Assumes nothing.
-use Rattle.std.specs.Prelude.{◌≡◌, refl, List, [], ◌∷◌, ◌++◌, ℕ, ◌+◌, ◌*◌, ◌-◌, ◌<◌, ◌≤◌, length, drop, ℤ, pos, negsuc, ◌<ℤ◌}
+use Rattle.std.specs.Prelude.{◌≡◌, refl, List, [], ◌∷◌, ◌++◌, ℕ, ◌+◌, ◌*◌, ◌<◌, ◌≤◌, length, drop, ℤ, pos, negsuc, ◌<ℤ◌}
 use Rattle.std.proofs.Common.{sym, ap, ◌∙◌, subst, append_assoc, append-nil, arith, ltb→lt, length-drop, drop_of_length-le}
 use Rattle.sheet.specs.Core.{Core, core_of}
 use Rattle.sheet.specs.Laws.Integer.{up, down, plus}

@@ -1,6 +1,6 @@
 -- A path followed wire by wire along the words.
 -- Assumes nothing.
-use Rattle.std.specs.Prelude.{◌≡◌, refl, List, [], ◌∷◌, ◌++◌, ℕ, suc, ◌+◌, ◌-◌, ◌<◌, ◌≤◌, length, take, drop, get_or, pos}
+use Rattle.std.specs.Prelude.{◌≡◌, refl, List, [], ◌∷◌, ◌++◌, ℕ, suc, ◌+◌, ◌<◌, ◌≤◌, length, take, drop, get_or, pos}
 use Rattle.std.proofs.Common.{sym, ap, ◌∙◌, subst, arith, add-one, length-drop, take-suc, get_or-drop, take-take, get_or-take, length-take-le}
 use Rattle.std.proofs.Math.Seq.{split_at}
 use Rattle.sheet.specs.Core.{shape_of, blocks_in, wires_in, delay_in, from_in, to_in, registers_in}

@@ -1,6 +1,5 @@
 -- The wires passed so far lead from the start to `here`; the words after them are looked at one by one.
 use native.Mathlib.Omega.{arith}
-use Prim.Native.Nat.{◌-◌}
 use lib.ListN.{drop}
 use Rattle.sheet.specs.Laws.Sheet.{block_read, block_refused}
 use Rattle.loops.specs.Laws.Follow.{step_read, step_refused, start_out, follow_start, follow_end, words_stuck, words_step}
