@@ -35,14 +35,14 @@ module _ {g : Given} {lower e par up : List ℕ} {n i a b k : ℕ} (R : Ready g 
       let E = rule_ends F R.rule in
       let n_is = R.n_is in
       record {
-        a_small = omega (arith, E.a_Block, F.few_blocks);
+        a_small = omega (arith, E.a_block, F.few_blocks);
         b_small = omega (arith, E.b_block, F.few_blocks);
         b_block = omega (arith, E.b_block);
         n_small = omega (arith, F.few_blocks);
         k_small = E.k_small;
-        at_a = omega (arith, St.high a E.a_Block, F.upper_small a E.a_Block);
+        at_a = omega (arith, St.high a E.a_block, F.upper_small a E.a_block);
         at_b = omega (arith, St.high b E.b_block, F.upper_small b E.b_block);
-        lower_a = omega (arith, ap (λ (l : List ℕ). get_or l a 0) R.lower_is, F.ordered a E.a_Block, F.upper_small a E.a_Block);
+        lower_a = omega (arith, ap (λ (l : List ℕ). get_or l a 0) R.lower_is, F.ordered a E.a_block, F.upper_small a E.a_block);
         lower_long = ap length R.lower_is ∙ F.lower_long;
         e_long = St.e_long;
         par_long = St.par_long;

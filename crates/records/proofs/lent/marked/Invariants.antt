@@ -1,0 +1,12 @@
+-- Every entry below i is marked.
+use mathlib.Core.Path.{◌≡◌}
+use Prim.Native.Nat.{ℕ, ◌-◌, ◌<◌, ◌≤◌}
+use lib.ListN.{length, get_or}
+use Rattle.records.specs.Lent.{entry_before}
+use Rattle.records.proofs.lent.marked.Given as goal
+
+abbrev pub invariant-loop-i : goal.invariant-loop-i
+invariant-loop-i l = (l.i ≤ 4300) × (length l.list ≡ length l.initial.list) × ((k : ℕ) → k < l.i → get_or l.list k 0 ≡ entry_before k)
+
+abbrev pub decreases-loop-i : goal.decreases-loop-i
+decreases-loop-i l = 4300 - l.i

@@ -1,0 +1,12 @@
+-- Every word below i is marked.
+use mathlib.Core.Path.{◌≡◌}
+use Prim.Native.Nat.{ℕ, ◌-◌, ◌<◌, ◌≤◌}
+use lib.ListN.{length, get_or}
+use Rattle.records.specs.Lent.{word_before}
+use Rattle.records.proofs.lent.marked_words.Given as goal
+
+abbrev pub invariant-loop-i : goal.invariant-loop-i
+invariant-loop-i l = (l.i ≤ 4300) × (length l.list ≡ length l.initial.list) × ((k : ℕ) → k < l.i → get_or l.list k 0 ≡ word_before k)
+
+abbrev pub decreases-loop-i : goal.decreases-loop-i
+decreases-loop-i l = 4300 - l.i
