@@ -5,4 +5,3 @@ pub mod Follow
 pub mod Chain
 pub mod Question
 pub mod Out
-pub mod Test

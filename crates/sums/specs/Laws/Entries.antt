@@ -9,7 +9,7 @@ use Rattle.paths.specs.Path.{Joins, registers_on, delay_on, end_of}
 use Rattle.paths.specs.Table.{Best}
 use Rattle.tables.specs.Laws.Ahead.{Ahead, fewer, level, ahead_registers, ahead_delay, ahead_refl, ahead_trans, ahead_add, ahead_as}
 use Rattle.loops.specs.Test.{joins_test}
-use Rattle.loops.specs.Laws.Test.{joins_sound}
+use Rattle.loops.proofs.Tested.{joins_sound}
 use Rattle.sums.specs.Test.{every, ahead_test, registers_to, delay_to, path_tests, still_test, row_tests, table_test}
 use Rattle.sums.specs.Laws.Finite.{each, all_below_lem}
 

@@ -14,7 +14,7 @@ use Rattle.tables.specs.Laws.Entry.{entry_unique}
 use Rattle.moves.specs.Lags.{moved_by, Fits, Permitted, Meets}
 use Rattle.loops.specs.Link.{sum_k}
 use Rattle.loops.specs.Test.{chain_test, valid_test}
-use Rattle.loops.specs.Laws.Test.{chain_sound, test_sound}
+use Rattle.loops.proofs.Tested.{chain_sound, test_sound}
 use Rattle.loops.specs.Laws.Out.{host_zero, chain_kept, meets_keeps, rules_out}
 use Rattle.promises.specs.Lags.{Largest, Least}
 use Rattle.promises.specs.Laws.Rules.{keeps_meets}

@@ -20,7 +20,7 @@ use Rattle.paths.specs.Laws.Questions.{sheet_sound, sound_checks}
 use Rattle.tables.specs.Laws.Entry.{entry_unique}
 use Rattle.moves.specs.Lags.{lags_in}
 use Rattle.loops.specs.Test.{valid_test}
-use Rattle.loops.specs.Laws.Test as Lt
+use Rattle.loops.proofs.Tested as Lt
 use Rattle.loops.specs.Laws.Question.{loop_rest, loop_yes_lem, loop_no_lem}
 use Rattle.promises.specs.Lags.{Largest, LoopGiven, PlainLoop}
 use Rattle.promises.specs.Questions.{PeriodDone, PeriodRight, LagsOutcome, lags_outcome, words_needed, LagsDone, LagsRefused, lags_last, LagsRight, best_last, BestRight}

@@ -9,7 +9,7 @@ use Rattle.sheet.specs.Core.{Core}
 use Rattle.paths.specs.Laws.Pigeons.{NotIn, NoDup}
 use Rattle.loops.specs.Link.{Link, wire, path, upper, lower, ceiling, link_a, sum_k, ValidLoop, NoPath}
 use Rattle.loops.specs.Test.{Parsed, links, links_of, valid_test}
-use Rattle.loops.specs.Laws.Test.{links_told, test_sound}
+use Rattle.loops.proofs.Tested.{links_told, test_sound}
 use Rattle.witness.specs.Laws.Plain.{valid_plain}
 use Rattle.promises.specs.Lags.{LoopGiven, PlainLoop}
 use Rattle.sums.specs.Test.{every, not_in_test, no_dup_test, no_path_test, once_test, plain_test, sum_test, given_tests}
