@@ -8,7 +8,7 @@ fn link(folder: &Path) {
     let library = folder.join("liblez.a");
     println!("cargo::rerun-if-changed={}", library.display());
     if !library.is_file() {
-        panic!("{} is missing: run 'rt staticlib lez', or name its folder in LEZVORGAN_LIB", library.display());
+        panic!("{} is missing: run 'rt lib' in crates/lez, or name its folder in LEZVORGAN_LIB", library.display());
     }
     println!("cargo::rustc-link-search=native={}", folder.display());
     println!("cargo::rustc-link-lib=static=lez");
@@ -22,6 +22,6 @@ fn main() {
     if let Ok(folder) = env::var("LEZVORGAN_LIB") {
         link(Path::new(&folder));
     } else if env::var("CARGO_CFG_TARGET_ARCH").as_deref() == Ok("x86_64") {
-        link(&here.join("../target/staticlib"));
+        link(&here.join("../crates/lez/out"));
     }
 }

@@ -52,4 +52,3 @@ module _ (s : List ℕ) (lags : List ℤ) (l : List ℕ) where
       (exactly (lag_rules s (lags_in lags)) (place_exact _ _ _, (place_exact _ _ _, tt)))
       (done_like, tt)))))
       o p h k (λ z. (move_means s lags l o h z).sound.formed)
-

@@ -54,4 +54,3 @@ module _ (s r d : List ℕ) where
       (tight_both ◌≡◌ (stage (keep s r d) (frame_rules s)) (table_after_frame s r d) (stage_exact (keep s r d) (frame_rules s) (frame_exact s))
       (tight_both ◌≡◌ (stage (keep s r d) (room s r d)) (stage (keep s r d) (sound_rules s) ++ (last s r d)) (stage_exact (keep s r d) (room s r d) (refusal_exact (answer 4 0 0), (refusal_exact (answer 4 1 0), tt)))
       (tight_both ◌≡◌ (stage (keep s r d) (sound_rules s)) (last s r d) (stage_exact (keep s r d) (sound_rules s) (sound_exact s)) (same_outcome, tt))))
-
