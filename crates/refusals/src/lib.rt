@@ -19,7 +19,7 @@ use witness::write_loop;
 pub mod load; // the lists of the solver, and lags written out
 
 // Which period the lags are asked for.
-#[derive(Drop)]
+#[derive(Clone, Copy)]
 pub enum Aim {
     At(u32),
     Least,
