@@ -1,0 +1,9 @@
+-- The wires found lead on from b, and complete the best paths to b to best paths.
+use Rattle.witness.specs.Trace.{Tracing}
+use Rattle.witness.proofs.trace.trace.Given as goal
+
+abbrev pub invariant-loop-b : goal.invariant-loop-b
+invariant-loop-b l = Tracing l.s l.n l.registers l.delays l.u l.v l.b l.at l.wires
+
+abbrev pub decreases-loop-b : goal.decreases-loop-b
+decreases-loop-b l = l.at
