@@ -8,4 +8,3 @@ pub mod Loops
 pub mod Over
 pub mod Moves
 pub mod Line
-pub mod Table

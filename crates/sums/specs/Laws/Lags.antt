@@ -1,6 +1,6 @@
 -- Lags that pass the tests are permitted, meet their period, and are the largest; the period that passes is the sheet's.
 -- Assumes nothing.
-use Rattle.std.specs.Prelude.{◌≡◌, refl, List, [], ℕ, zero, suc, ◌≤◌, ◌<◌, T, eqb, ltb, leb, ℤ, pos, ◌-ℤ◌, ◌≤ℤ◌, get_or}
+use Rattle.std.specs.Prelude.{◌≡◌, refl, List, [], ℕ, zero, suc, ◌<◌, T, eqb, ltb, leb, ℤ, pos, ◌-ℤ◌, ◌≤ℤ◌, get_or}
 use Rattle.std.proofs.Common.{sym, ap, ◌∙◌, arith, eq-eqb, lt-ltb, leb→le, eqb→eq}
 use Rattle.std.specs.Float.Ieee.Fits.{and_l, and_r}
 use Rattle.std.specs.Float.Ieee.Bits.{is_true}
