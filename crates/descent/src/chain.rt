@@ -9,7 +9,7 @@ ghost use Rattle.descent.specs.Chain.{Chained, Eased, Sinking};
 use sheet::number::lesser;
 
 // A chain of rules: lag(start) + 64 <= lag(end) + total, at every period below `until`.
-#[derive(Drop)]
+#[derive(Clone, Copy)]
 pub struct Chain {
     pub end: usize,
     pub total: u32,

@@ -3,7 +3,7 @@ ghost use Rattle.std.specs.Prelude.{◌≡◌, ◌+◌, ◌≤◌, ◌<◌, leng
 ghost use Rattle.loops.specs.Reads.{HeadGiven};
 
 // Kind and wire (1 and 5); start block and number of wires (2); kind and block (3 and 4).
-#[derive(Drop)]
+#[derive(Clone, Copy)]
 pub enum Link {
     Wire(usize, usize),
     Path(usize, usize),
@@ -11,7 +11,7 @@ pub enum Link {
 }
 
 // A good link: its rule is lag(a) - lag(b) <= k, held as k + 32,768; the next link's words begin at `next`.
-#[derive(Drop)]
+#[derive(Clone, Copy)]
 pub struct Read {
     pub link: Link,
     pub a: usize,
@@ -21,14 +21,14 @@ pub struct Read {
 }
 
 // A good link, or none.
-#[derive(Drop)]
+#[derive(Clone, Copy)]
 pub enum LinkRead {
     Good(Read),
     Refused,
 }
 
 // A link whose words are all there, or none.
-#[derive(Drop)]
+#[derive(Clone, Copy)]
 pub enum Head {
     Known(Link),
     Unknown,

@@ -9,7 +9,7 @@ use sheet::block::{BlockRead, read_block};
 use sheet::wire::{WireRead, read_wire};
 
 // The block that a wire or a path leads to, with the registers and delay that it adds; or it does not lead on.
-#[derive(Drop)]
+#[derive(Clone, Copy)]
 pub enum Step {
     To(usize, u32, u32),
     Refused,

@@ -11,7 +11,7 @@ use descent::settle::settle;
 use refusals::Aim;
 
 // What was found: lags with the value of their answer, or nothing.
-#[derive(Drop)]
+#[derive(Clone, Copy)]
 pub enum Found {
     Lags(u32),
     Nothing,

@@ -3,7 +3,7 @@ ghost use Rattle.std.specs.Prelude.{◌≡◌, ◌<◌};
 ghost use Rattle.sheet.specs.Rules.{answer};
 
 // 01: "Each answer has a number, a place and, where the question has one, a value."
-#[derive(Drop)]
+#[derive(Clone, Copy)]
 pub struct Answer {
     pub number: u32,
     pub place: u32,
@@ -11,7 +11,7 @@ pub struct Answer {
 }
 
 // A stage of a question refuses, or the question goes on.
-#[derive(Drop)]
+#[derive(Clone, Copy)]
 pub enum Stage {
     Pass,
     Refuse(Answer),

@@ -5,7 +5,7 @@ ghost use Rattle.sheet.specs.Reads.{BlockOf, BlockGiven};
 use crate::bytes::{excess_at, u32_at};
 
 // The entry, its lags as excess numbers, or a refusal with the block's number.
-#[derive(Drop)]
+#[derive(Clone, Copy)]
 pub enum BlockRead {
     Block(u32, u32, u32),
     Refused(usize),

@@ -9,7 +9,7 @@ use crate::answer::{Answer, refusal};
 use crate::bytes::{u16_at, u32_at};
 
 // The numbers of blocks and wires, or the refusal.
-#[derive(Drop)]
+#[derive(Clone, Copy)]
 pub enum Frame {
     Counts(usize, usize),
     Refused(Answer),

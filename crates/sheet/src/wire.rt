@@ -6,7 +6,7 @@ ghost use Rattle.sheet.specs.Reads.{WireOf, WireGiven};
 use crate::bytes::u16_at;
 
 // The entry, from, to and registers, or a refusal with the wire's number.
-#[derive(Drop)]
+#[derive(Clone, Copy)]
 pub enum WireRead {
     Wire(usize, usize, u32),
     Refused(usize),

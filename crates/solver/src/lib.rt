@@ -11,14 +11,14 @@ mod relax; // one rule
 mod sweep; // the rules of all wires, of all ceilings, of the path table
 
 // What a sweep over rules gives: so many lags were lowered, or rule i from a to b leaves none.
-#[derive(Drop)]
+#[derive(Clone, Copy)]
 pub enum Turn {
     Kept(usize),
     Broken(usize, usize, usize),
 }
 
 // How the rounds end: all rules hold, or rule i from a to b leaves no lags.
-#[derive(Drop)]
+#[derive(Clone, Copy)]
 pub enum End {
     Rest,
     Stuck(usize, usize, usize),
