@@ -33,17 +33,17 @@ module _ (c : Core) (f : Formed c) (p : ℕ) (r q : ℕ → ℤ) (same : (b : �
 
 -- ---- the first n lags are those in e
 module _ {s : List ℕ} (e : List ℕ) {n p : ℕ} (f : FormedSheet s) (n_is : n ≡ blocks_in s) (L : Largest (core_of s) p (λ b. lag_of (get_or e b 0)))
-    (l l' : List ℤ) (w w' : List ℕ) (long : n ≤ length l) (Filled_is : l' ≡ filled (λ b. lag_of (get_or e b 0)) n l) (kept : w' ≡ w) where
+    (l l' : List ℤ) (w w' : List ℕ) (long : n ≤ length l) (filled_is : l' ≡ filled (λ b. lag_of (get_or e b 0)) n l) (kept : w' ≡ w) where
   written : (b : ℕ) → b < blocks_in s → lag_of (get_or e b 0) ≡ lags_in l' b
-  written b h = sym (ap (λ (x : List ℤ). get_or x b (pos 0)) Filled_is ∙ filled_at (λ i. lag_of (get_or e i 0)) n l b (pos 0) (omega (arith, n_is)) long)
+  written b h = sym (ap (λ (x : List ℤ). get_or x b (pos 0)) filled_is ∙ filled_at (λ i. lag_of (get_or e i 0)) n l b (pos 0) (omega (arith, n_is)) long)
 
   done_written : (value : ℕ) → LagsDone s p value l w (lags_outcome (answer 0 0 value) l' w')
   done_written value = record {
     says_done = refl;
     largest = largest_same (core_of s) (formed_core s f) p (λ b. lag_of (get_or e b 0)) (lags_in l') written L;
     lags_kept = record {
-      long = ap length Filled_is ∙ length_filled (λ b. lag_of (get_or e b 0)) n l;
-      past = λ i h. ap (λ (x : List ℤ). get_or x i (pos 0)) Filled_is ∙ filled_past (λ b. lag_of (get_or e b 0)) n l i (pos 0) (omega (arith, n_is));
+      long = ap length filled_is ∙ length_filled (λ b. lag_of (get_or e b 0)) n l;
+      past = λ i h. ap (λ (x : List ℤ). get_or x i (pos 0)) filled_is ∙ filled_past (λ b. lag_of (get_or e b 0)) n l i (pos 0) (omega (arith, n_is));
     };
     words_kept = kept;
   }
