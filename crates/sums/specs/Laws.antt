@@ -1,4 +1,4 @@
--- The computed test is sound, and every line of the table passes it.
+-- The computed test is sound. (That every line of the table passes it is proofs/Table.)
 
 pub mod Finite
 pub mod Sound

@@ -1,2 +1,2 @@
-// 01's sums marked P, as one table with one theorem: specs/Lines.antt and specs/Laws/Table.antt. No code.
+// 01's sums marked P, as one table with one theorem: specs/Lines.antt and proofs/Table.antt. No code.
 #![tactic(auto)]
