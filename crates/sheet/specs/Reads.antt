@@ -1,16 +1,15 @@
 -- What each reader of a sheet's bytes gives, case by case.
-use Rattle.std.specs.Prelude.{◌≡◌, List, ℕ, ◌+◌, ◌<◌, ◌≤◌, ℤ}
+use Rattle.std.specs.Prelude.{◌≡◌, List, ℕ, ◌+◌, ◌<◌, ◌≤◌, ℤ, Result, Ok, Err}
 use Rattle.std.specs.Int.Signed.{mag}
 use Rattle.sheet.specs.Lag.{excess}
 use Rattle.sheet.specs.Core.{blocks_in, wires_in, delay_in, lower_in, upper_in, from_in, to_in, registers_in}
-use Rattle.sheet.specs.Rules.{First}
-use Rattle.sheet.specs.Sheet.{BlockGood, WireGood, WireRule, Framed, frame_rules}
-use Rattle.sheet.specs.declared.block.BlockRead.{BlockRead}
-use Rattle.sheet.specs.declared.block.BlockRead.TheVariants as B
-use Rattle.sheet.specs.declared.wire.WireRead.{WireRead}
-use Rattle.sheet.specs.declared.wire.WireRead.TheVariants as W
-use Rattle.sheet.specs.declared.frame.Frame.{Frame}
-use Rattle.sheet.specs.declared.frame.Frame.TheVariants as F
+use Rattle.sheet.specs.Rules.{First, refused}
+use Rattle.sheet.specs.Sheet.{BlockGood, WireGood, Framed, frame_rules}
+use Rattle.sheet.specs.declared.block.Block.{Block}
+use Rattle.sheet.specs.declared.wire.Wire.{Wire}
+use Rattle.sheet.specs.declared.entry.BadEntry.{BadEntry}
+use Rattle.sheet.specs.declared.refusal.Refusal.{Refusal}
+use Rattle.sheet.specs.declared.opened.Opened.{Opened}
 
 -- r is the excess number of the i16 z
 pub record ExcessIs (z : ℤ) (r : ℕ) : Type 0 where
@@ -43,23 +42,14 @@ pub record WireIs (s : List ℕ) (j from to registers : ℕ) : Type 0 where
   pub to_block : to < blocks_in s
   pub few : registers ≤ 2000
 
-abbrev pub BlockGiven : List ℕ → ℕ → BlockRead → Type 0
-BlockGiven s b (B.Block delay lower upper) = BlockIs s b delay lower upper × BlockGood s b
-BlockGiven s b (B.Refused k) = (k ≡ b) × (BlockGood s b → ⊥)
+abbrev pub BlockGiven : List ℕ → ℕ → Result Block BadEntry → Type 0
+BlockGiven s b (Ok block) = BlockIs s b block.delay block.lower block.upper × BlockGood s b
+BlockGiven s b (Err bad) = (bad.number ≡ b) × (BlockGood s b → ⊥)
 
-abbrev pub WireGiven : List ℕ → ℕ → WireRead → Type 0
-WireGiven s j (W.Wire from to registers) = WireIs s j from to registers × WireGood s j
-WireGiven s j (W.Refused k) = (k ≡ j) × (WireGood s j → ⊥)
+abbrev pub WireGiven : List ℕ → ℕ → Result Wire BadEntry → Type 0
+WireGiven s j (Ok wire) = WireIs s j wire.from wire.to wire.registers × WireGood s j
+WireGiven s j (Err bad) = (bad.number ≡ j) × (WireGood s j → ⊥)
 
-abbrev pub FrameGiven : List ℕ → Frame → Type 0
-FrameGiven s (F.Counts n m) = (n ≡ blocks_in s) × (m ≡ wires_in s) × Framed s
-FrameGiven s (F.Refused a) = First (frame_rules s) a
-
--- the same of the entries' numbers, before they are tied to a sheet
-abbrev pub BlockOf : ℕ → ℕ → ℕ → ℕ → BlockRead → Type 0
-BlockOf b d lo up (B.Block delay lower upper) = (delay ≡ d) × (lower ≡ lo) × (upper ≡ up) × BlockNumbers b delay lower upper
-BlockOf b d lo up (B.Refused k) = (k ≡ b) × (BlockNumbers b d lo up → ⊥)
-
-abbrev pub WireOf : ℕ → ℕ → ℕ → ℕ → ℕ → ℕ → WireRead → Type 0
-WireOf n j f t w z (W.Wire from to registers) = (from ≡ f) × (to ≡ t) × (registers ≡ w) × WireRule n from to registers z
-WireOf n j f t w z (W.Refused k) = (k ≡ j) × (WireRule n f t w z → ⊥)
+abbrev pub FrameGiven : List ℕ → Result Opened Refusal → Type 0
+FrameGiven s (Ok sheet) = (sheet.bytes.now ≡ s) × (sheet.n ≡ blocks_in s) × (sheet.m ≡ wires_in s) × Framed s
+FrameGiven s (Err r) = First (frame_rules s) (refused r)

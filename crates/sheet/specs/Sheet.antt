@@ -1,13 +1,12 @@
 -- What a sheet must be, and the refusals 1, 2, 3, 5 and 6 that it earns else, as 01 has them.
-use Rattle.std.specs.Prelude.{◌≡◌, ◌⊎◌, List, [], ◌∷◌, ℕ, ◌+◌, ◌*◌, ◌<◌, ◌≤◌, length, ℤ, pos, negsuc, ◌-ℤ◌, ◌≤ℤ◌}
+use Rattle.std.specs.Prelude.{◌≡◌, ◌⊎◌, List, [], ◌∷◌, ◌++◌, ℕ, ◌+◌, ◌*◌, ◌<◌, ◌≤◌, length, ℤ, pos, negsuc, ◌-ℤ◌, ◌≤ℤ◌, Result, Ok, Err}
 use Rattle.sheet.specs.Bytes.{u32_at}
 use Rattle.sheet.specs.Core.{Core, blocks_in, wires_in, delay_in, lower_in, upper_in, from_in, to_in, registers_in, spare_in}
 use Rattle.sheet.specs.Rules.{Rule, answer, refusal, first_place}
 use Rattle.sheet.specs.declared.answer.Answer.{Answer}
-use Rattle.sheet.specs.declared.block.BlockRead.{BlockRead}
-use Rattle.sheet.specs.declared.block.BlockRead.TheVariants as B
-use Rattle.sheet.specs.declared.wire.WireRead.{WireRead}
-use Rattle.sheet.specs.declared.wire.WireRead.TheVariants as W
+use Rattle.sheet.specs.declared.block.Block.{Block}
+use Rattle.sheet.specs.declared.wire.Wire.{Wire}
+use Rattle.sheet.specs.declared.entry.BadEntry.{BadEntry}
 
 -- ---- one block, one wire
 -- 01: "from -1,000 to 1,000" (`negsuc 999` is -1,000)
@@ -38,13 +37,13 @@ abbrev pub WireGood : List ℕ → ℕ → Type 0
 WireGood s j = WireRule (blocks_in s) (from_in s j) (to_in s j) (registers_in s j) (spare_in s j)
 
 -- ---- 01's number, place and value for each case of a reader's answer
-abbrev pub block_answer : BlockRead → Answer
-block_answer (B.Block delay lower upper) = answer 0 0 0
-block_answer (B.Refused block) = answer 5 block 0
+abbrev pub block_answer : Result Block BadEntry → Answer
+block_answer (Ok block) = answer 0 0 0
+block_answer (Err bad) = answer 5 bad.number 0
 
-abbrev pub wire_answer : WireRead → Answer
-wire_answer (W.Wire from to registers) = answer 0 0 0
-wire_answer (W.Refused wire) = answer 6 wire 0
+abbrev pub wire_answer : Result Wire BadEntry → Answer
+wire_answer (Ok wire) = answer 0 0 0
+wire_answer (Err bad) = answer 6 bad.number 0
 
 -- ---- the refusals, stage by stage
 -- 01: "The block table starts at 16, the wire table at 16 + 8n, the total is 16 + 8n + 8m, and the lent slice has that length"
@@ -64,11 +63,14 @@ frame_rules s =
 
 -- 5: "a block entry breaks its rule", place "first such block"
 -- 6: "a wire entry breaks its rule, or an end is n or more", "the place is the number of the first such wire"
+abbrev pub block_rules : List ℕ → List (Rule Answer)
+block_rules s = first_place (λ b. BlockGood s b → ⊥) (blocks_in s) (λ b. block_answer (Err (record { number = b }))) ∷ []
+
+abbrev pub wire_rules : List ℕ → List (Rule Answer)
+wire_rules s = first_place (λ j. WireGood s j → ⊥) (wires_in s) (λ j. wire_answer (Err (record { number = j }))) ∷ []
+
 abbrev pub entry_rules : List ℕ → List (Rule Answer)
-entry_rules s =
-    first_place (λ b. BlockGood s b → ⊥) (blocks_in s) (λ b. block_answer (B.Refused b))
-    ∷ first_place (λ j. WireGood s j → ⊥) (wires_in s) (λ j. wire_answer (W.Refused j))
-    ∷ []
+entry_rules s = block_rules s ++ wire_rules s
 
 -- ---- what a sheet that passes guarantees
 -- 1, 2 and 3

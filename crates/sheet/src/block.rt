@@ -1,63 +1,54 @@
 // One block entry of a sheet.
 ghost use Rattle.std.specs.Prelude.{◌+◌, ◌*◌, ◌<◌, ◌≤◌, length};
-ghost use Rattle.sheet.specs.Reads.{BlockOf, BlockGiven};
+ghost use Rattle.sheet.specs.Rules.{Told};
+ghost use Rattle.sheet.specs.Reads.{BlockNumbers, BlockGiven};
 
 use crate::bytes::{excess_at, u32_at};
+use crate::entry::BadEntry;
 
-// The entry, its lags as excess numbers, or a refusal with the block's number.
-#[derive(Clone, Copy)]
-pub enum BlockRead {
-    Block(u32, u32, u32),
-    Refused(usize),
+// A block's numbers, its lags as excess numbers.
+#[derive(Clone, Copy, Debug, PartialEq, Eq)]
+pub struct Block {
+    pub delay: u32,
+    pub lower: u32,
+    pub upper: u32,
 }
 
-// The host's entry by its numbers: delay 0 and both lags 0.
-fn host_of(delay: u32, lower: u32, upper: u32) -> BlockRead
-    ensures { BlockOf 0 delay lower upper result }
+// The host: delay 0 and both lags 0.
+fn is_host(block: Block) -> bool
+    ensures { Told (BlockNumbers 0 block.delay block.lower block.upper) result }
 {
-    if delay != 0 {
-        return BlockRead::Refused(0);
-    }
-    if lower != 32768 {
-        return BlockRead::Refused(0);
-    }
-    if upper != 32768 {
-        return BlockRead::Refused(0);
-    }
-    BlockRead::Block(delay, lower, upper)
+    block.delay == 0 && block.lower == 32768 && block.upper == 32768
 }
 
-// An entry by its numbers.
-fn block_of(b: usize, delay: u32, lower: u32, upper: u32) -> BlockRead
-    requires { lower < 65536 }
-    ensures { BlockOf b delay lower upper result }
+// Whether these are good numbers for block b.
+fn is_good(b: usize, block: Block) -> bool
+    requires { block.lower < 65536 }
+    ensures { Told (BlockNumbers b block.delay block.lower block.upper) result }
 {
     if b == 0 {
-        return host_of(delay, lower, upper);
+        return is_host(block);
     }
-    if delay > 10000 {
-        return BlockRead::Refused(b);
-    }
-    if lower < 31768 {
-        return BlockRead::Refused(b);
-    }
-    if upper > 33768 {
-        return BlockRead::Refused(b);
-    }
-    if upper < lower {
-        return BlockRead::Refused(b);
-    }
-    if upper > lower + 1000 {
-        return BlockRead::Refused(b);
-    }
-    BlockRead::Block(delay, lower, upper)
+    block.delay <= 10000
+        && block.lower >= 31768
+        && block.upper <= 33768
+        && block.lower <= block.upper
+        && block.upper <= block.lower + 1000
 }
 
 // Block entry b of a sheet: nothing else reads a block's bytes.
-pub fn read_block(s: &[u8], b: usize) -> BlockRead
+pub fn read_block(s: &[u8], b: usize) -> Result<Block, BadEntry>
     requires { 24 + 8 * b ≤ length s.now }
     ensures { BlockGiven s.now b result }
 {
     let at = 16 + 8 * b;
-    block_of(b, u32_at(s, at), excess_at(s, at + 4), excess_at(s, at + 6))
+    let block = Block {
+        delay: u32_at(s, at),
+        lower: excess_at(s, at + 4),
+        upper: excess_at(s, at + 6),
+    };
+    if is_good(b, block) {
+        return Ok(block);
+    }
+    Err(BadEntry { number: b })
 }

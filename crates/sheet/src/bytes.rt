@@ -3,17 +3,11 @@ ghost use Rattle.std.specs.Prelude.{◌≡◌, ◌+◌, ◌%◌, ◌<◌, length
 ghost use Rattle.sheet.specs.Bytes.{u16_at, u32_at, i16_at, put16};
 ghost use Rattle.sheet.specs.Reads.{ExcessIs};
 
-fn wide(x: u8) -> u32
-    ensures { (result ≡ x) × (result < 256) }
-{
-    x as u32
-}
-
 pub fn u16_at(s: &[u8], at: usize) -> u32
     requires { at + 1 < length s.now }
     ensures { (result ≡ u16_at s.now at) × (result < 65536) }
 {
-    wide(s[at]) + 256 * wide(s[at + 1])
+    u32::from(s[at]) + 256 * u32::from(s[at + 1])
 }
 
 pub fn u32_at(s: &[u8], at: usize) -> u32

@@ -1,55 +1,45 @@
 // The first bad block and the first bad wire of a sheet: refusals 5 and 6.
-ghost use Rattle.std.specs.Prelude.{◌≡◌};
-ghost use Rattle.sheet.specs.Core.{blocks_in, wires_in};
-ghost use Rattle.sheet.specs.Rules.{FirstOf, Staged};
-ghost use Rattle.sheet.specs.Sheet.{Framed, BlockGood, WireGood, entry_rules};
+ghost use Rattle.std.specs.Prelude.{◌≡◌, IfOk};
+ghost use Rattle.sheet.specs.Rules.{Staged};
+ghost use Rattle.sheet.specs.Sheet.{block_rules, wire_rules, entry_rules};
 
-use crate::answer::{Stage, refusal};
-use crate::block::{BlockRead, read_block};
-use crate::wire::{WireRead, read_wire};
+use crate::block::read_block;
+use crate::opened::{Formed, Opened};
+use crate::refusal::Refusal;
+use crate::wire::read_wire;
 
-// The first block whose entry breaks its rule, or n.
-fn first_bad_block(s: &[u8], n: usize) -> usize
-    requires { Framed s.now × (n ≡ blocks_in s.now) }
-    ensures { FirstOf (λ b. BlockGood s.now b → ⊥) n result }
+fn check_blocks(sheet: Opened<'_>) -> Result<(), Refusal>
+    ensures { Staged (block_rules sheet.entry.bytes.now) result }
 {
-    let mut b = 0;
-    while b < n {
-        let BlockRead::Block(_, _, _) = read_block(s, b) else {
-            return b;
+    for b in 0..sheet.n {
+        let Ok(_) = read_block(sheet.bytes, b) else {
+            return Err(Refusal::Block(b as u32));
         };
-        b += 1;
     }
-    n
+    Ok(())
 }
 
-// The first wire whose entry breaks its rule, or m.
-fn first_bad_wire(s: &[u8], n: usize, m: usize) -> usize
-    requires { Framed s.now × (n ≡ blocks_in s.now) × (m ≡ wires_in s.now) }
-    ensures { FirstOf (λ j. WireGood s.now j → ⊥) m result }
+fn check_wires(sheet: Opened<'_>) -> Result<(), Refusal>
+    ensures { Staged (wire_rules sheet.entry.bytes.now) result }
 {
-    let mut j = 0;
-    while j < m {
-        let WireRead::Wire(_, _, _) = read_wire(s, n, j) else {
-            return j;
+    for j in 0..sheet.m {
+        let Ok(_) = read_wire(sheet.bytes, sheet.n, j) else {
+            return Err(Refusal::Wire(j as u32));
         };
-        j += 1;
     }
-    m
+    Ok(())
 }
 
 // Refusals 5 and 6 of a sheet that 1, 2 and 3 pass.
-pub fn check_entries(s: &[u8], n: usize, m: usize) -> Stage
-    requires { Framed s.now × (n ≡ blocks_in s.now) × (m ≡ wires_in s.now) }
-    ensures { Staged (entry_rules s.now) result }
+pub fn check_entries(sheet: Opened<'_>) -> Result<Formed<'_>, Refusal>
+    ensures staged { Staged (entry_rules sheet.entry.bytes.now) result }
+    ensures same { IfOk result (λ f. f.bytes.now ≡ sheet.entry.bytes.now) }
 {
-    let b = first_bad_block(s, n);
-    if b < n {
-        return Stage::Refuse(refusal(5, b));
-    }
-    let j = first_bad_wire(s, n, m);
-    if j < m {
-        return Stage::Refuse(refusal(6, j));
-    }
-    Stage::Pass
+    check_blocks(sheet)?;
+    check_wires(sheet)?;
+    Ok(Formed {
+        bytes: sheet.bytes,
+        n: sheet.n,
+        m: sheet.m,
+    })
 }

@@ -5,55 +5,36 @@ ghost use Rattle.sheet.specs.Rules.{Told};
 ghost use Rattle.sheet.specs.Sheet.{Offsets};
 ghost use Rattle.sheet.specs.Reads.{FrameGiven};
 
-use crate::answer::{Answer, refusal};
 use crate::bytes::{u16_at, u32_at};
-
-// The numbers of blocks and wires, or the refusal.
-#[derive(Clone, Copy)]
-pub enum Frame {
-    Counts(usize, usize),
-    Refused(Answer),
-}
+use crate::opened::Opened;
+use crate::refusal::Refusal;
 
 // Both offsets, the total and the slice's length are what the counts ask.
 fn offsets_right(s: &[u8], n: usize, m: usize) -> bool
     requires { (n ≡ blocks_in s.now) × (m ≡ wires_in s.now) × (n ≤ 64) × (m ≤ 256) × (16 ≤ length s.now) }
     ensures { Told (Offsets s.now) result }
 {
-    if u32_at(s, 4) != 16 {
-        return false;
-    }
-    if u32_at(s, 8) as usize != 16 + 8 * n {
-        return false;
-    }
-    if u32_at(s, 12) as usize != 16 + 8 * n + 8 * m {
-        return false;
-    }
-    if s.len() != 16 + 8 * n + 8 * m {
-        return false;
-    }
-    true
+    let wires_at = 16 + 8 * n;
+    let total = wires_at + 8 * m;
+    u32_at(s, 4) == 16
+        && u32_at(s, 8) as usize == wires_at
+        && u32_at(s, 12) as usize == total
+        && s.len() == total
 }
 
-pub fn read_frame(s: &[u8]) -> Frame
-    ensures { FrameGiven s.now result }
+pub fn read_frame(bytes: &[u8]) -> Result<Opened<'_>, Refusal>
+    ensures { FrameGiven bytes.now result }
 {
-    if s.len() < 16 {
-        return Frame::Refused(refusal(1, 0));
+    if bytes.len() < 16 {
+        return Err(Refusal::Short);
     }
-    let n = u16_at(s, 0) as usize;
-    let m = u16_at(s, 2) as usize;
-    if n < 1 {
-        return Frame::Refused(refusal(2, 0));
+    let n = u16_at(bytes, 0) as usize;
+    let m = u16_at(bytes, 2) as usize;
+    if n < 1 || n > 64 || m > 256 {
+        return Err(Refusal::Counts);
     }
-    if n > 64 {
-        return Frame::Refused(refusal(2, 0));
+    if !offsets_right(bytes, n, m) {
+        return Err(Refusal::Offsets);
     }
-    if m > 256 {
-        return Frame::Refused(refusal(2, 0));
-    }
-    if offsets_right(s, n, m) {
-        return Frame::Counts(n, m);
-    }
-    Frame::Refused(refusal(3, 0))
+    Ok(Opened { bytes, n, m })
 }

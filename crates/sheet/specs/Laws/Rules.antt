@@ -1,12 +1,11 @@
 -- Two outcomes that conform are alike; stages one after another; first places are unique.
 -- Assumes nothing.
-use Rattle.std.specs.Prelude.{◌≡◌, refl, ◌⊎◌, List, [], ◌∷◌, ◌++◌, Bool, true, false, ℕ, ◌<◌, ◌≤◌}
+use Rattle.std.specs.Prelude.{◌≡◌, refl, ◌⊎◌, List, [], ◌∷◌, ◌++◌, Bool, true, false, ℕ, ◌<◌, ◌≤◌, Result, Ok, Err}
 use Rattle.std.proofs.Common.{sym, ap, ◌∙◌, subst, inl, inr, arith}
 use Rattle.std.proofs.Math.Decide.{dec_lt}
-use Rattle.sheet.specs.Rules.{Rule, First, None, Tight, Exact, stage, FirstOf, first_place, Staged, Told}
+use Rattle.sheet.specs.Rules.{Rule, First, None, Tight, Exact, stage, FirstOf, first_place, Staged, Told, refused as told}
 use Rattle.sheet.specs.declared.answer.Answer.{Answer}
-use Rattle.sheet.specs.declared.answer.Stage.{Stage}
-use Rattle.sheet.specs.declared.answer.Stage.TheVariants.{Pass, Refuse}
+use Rattle.sheet.specs.declared.refusal.Refusal.{Refusal}
 
 module _ {A : Type 0} (Like : A → A → Type 0) where
   -- agreement: with `Like` as equality the outcomes are one, else they are as alike as the rules hold them
@@ -95,11 +94,12 @@ unstage keep says back (r ∷ rs) ts o (inr f) = go (unstage keep says back rs t
     go (inr g) = inr ((f.0, g.0), g.1)
 
 -- what a stage's result says once its case is known
-pub refused : (rs : List (Rule Answer)) (r : Stage) (a : Answer) → Staged rs r → r ≡ Refuse a → First rs a
-refused rs r a h e = subst (Staged rs) e h
+module _ {T : Type 0} (rs : List (Rule Answer)) (o : Result T Refusal) where
+  pub refused : (r : Refusal) → Staged rs o → o ≡ Err r → First rs (told r)
+  refused r h e = subst (Staged rs) e h
 
-pub passed : (rs : List (Rule Answer)) (r : Stage) → Staged rs r → r ≡ Pass → None rs
-passed rs r h e = subst (Staged rs) e h
+  pub passed : (x : T) → Staged rs o → o ≡ Ok x → None rs
+  passed x h e = subst (Staged rs) e h
 
 -- ---- first places
 module _ (P : ℕ → Type 0) (m : ℕ) where
@@ -139,9 +139,9 @@ pub told_false : (P : Type 0) (b : Bool) → Told P b → b ≡ false → P → 
 told_false P b h e = subst (Told P) e h
 
 -- a later stage after rules of which none applies
-pub staged_after : (rs ts : List (Rule Answer)) (r : Stage) → None rs → Staged ts r → Staged (rs ++ ts) r
-staged_after rs ts Pass n h = none_both rs ts n h
-staged_after rs ts (Refuse a) n h = first_right rs ts a n h
+pub staged_after : {T : Type 0} (rs ts : List (Rule Answer)) (o : Result T Refusal) → None rs → Staged ts o → Staged (rs ++ ts) o
+staged_after rs ts (Ok x) n h = none_both rs ts n h
+staged_after rs ts (Err r) n h = first_right rs ts (told r) n h
 
 -- ---- an answer 0 comes from none of the refusals
 abbrev pub NonZero : List (Rule Answer) → Type 0

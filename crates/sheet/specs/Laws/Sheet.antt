@@ -1,25 +1,21 @@
 -- A sheet's rules on integers and on excess numbers are the same; what the rules leave is a formed sheet.
 -- Assumes nothing.
-use Rattle.std.specs.Prelude.{◌≡◌, refl, ◌⊎◌, List, ℕ, ◌+◌, ◌%◌, ◌<◌, ◌≤◌, length, ℤ, pos, negsuc, ◌-ℤ◌}
-use Rattle.std.proofs.Common.{ap, ◌∙◌, subst, inl, inr, arith, to_z}
+use Rattle.std.specs.Prelude.{◌≡◌, refl, ◌⊎◌, List, ℕ, ◌+◌, ◌%◌, ◌<◌, ◌≤◌, length, ℤ, pos, negsuc, ◌-ℤ◌, Result, Ok, Err}
+use Rattle.std.proofs.Common.{ap, subst, inl, inr, arith, to_z}
 use Rattle.std.specs.Int.Signed.{mag}
 use Rattle.std.specs.Int.{w16}
 use Rattle.sheet.specs.Lag.{excess}
 use Rattle.sheet.specs.Bytes.{u16_at}
 use Rattle.sheet.specs.Core.{wire_at, blocks_in, wires_in, delay_in, lower_in, upper_in, from_in, to_in, registers_in, spare_in}
 use Rattle.sheet.specs.Rules.{First, None, FirstOf, answer}
-use Rattle.sheet.specs.Sheet.{LagLimits, BlockRule, BlockGood, WireGood, frame_rules, entry_rules, Offsets, Framed}
-use Rattle.sheet.specs.Reads.{ExcessIs, BlockNumbers, BlockOf, BlockGiven, BlockIs, WireIs, WireOf, WireGiven, FrameGiven}
+use Rattle.sheet.specs.Sheet.{LagLimits, BlockRule, WireRule, BlockGood, WireGood, frame_rules, block_rules, wire_rules, Offsets, Framed}
+use Rattle.sheet.specs.Reads.{ExcessIs, BlockNumbers, BlockGiven, BlockIs, WireIs, WireGiven}
 use Rattle.sheet.specs.Laws.Integer.{up, down, le_parts, parts_le, parts_eq, minus}
 use Rattle.sheet.specs.Laws.Lag.{excess_parts, mag_bits, excess_bits}
-use Rattle.sheet.specs.Laws.Rules.{place_found, place_none}
-use Rattle.sheet.specs.declared.block.BlockRead.{BlockRead}
-use Rattle.sheet.specs.declared.block.BlockRead.TheVariants as B
-use Rattle.sheet.specs.declared.wire.WireRead.{WireRead}
-use Rattle.sheet.specs.declared.wire.WireRead.TheVariants as W
-use Rattle.sheet.specs.declared.answer.Answer.{Answer}
-use Rattle.sheet.specs.declared.frame.Frame.{Frame}
-use Rattle.sheet.specs.declared.frame.Frame.TheVariants as F
+use Rattle.sheet.specs.Laws.Rules.{place_found, search_stops}
+use Rattle.sheet.specs.declared.block.Block.{Block}
+use Rattle.sheet.specs.declared.wire.Wire.{Wire}
+use Rattle.sheet.specs.declared.entry.BadEntry.{BadEntry}
 
 -- ---- the block rule on excess numbers
 pub limits_fit : (z : ℤ) → LagLimits z → mag z < 32768
@@ -73,50 +69,45 @@ excess_read x y e h =
     record { is = rw (excess_bits x g) (omega arith); below = omega arith; fits = mag_bits x g }
 
 -- ---- an entry's numbers, tied to the sheet that they were read from
-pub block_given : (s : List ℕ) (b d lo up : ℕ) (r : BlockRead) → BlockOf b d lo up r → d ≡ delay_in s b → ExcessIs (lower_in s b) lo → ExcessIs (upper_in s b) up → BlockGiven s b r
-block_given s b d lo up (B.Block delay lower upper) h p q r =
-    let e : delay ≡ delay_in s b = h.0 ∙ p in
-    let f : lower ≡ excess (lower_in s b) = h.1 ∙ q.is in
-    let g : upper ≡ excess (upper_in s b) = h.2 ∙ r.is in (
-      record { delay_is = e; lower_is = f; upper_is = g; numbers = h.3 },
-      numbers_block b (delay_in s b) (lower_in s b) (upper_in s b) q.fits r.fits (rw (e, f, g) at h.3),
-    )
-block_given s b d lo up (B.Refused k) h p q r = (h.0, λ z. h.1 (rw (p, q.is, r.is) (block_numbers b (delay_in s b) (lower_in s b) (upper_in s b) z)))
+module _ (s : List ℕ) (b d lo up : ℕ) (p : d ≡ delay_in s b) (q : ExcessIs (lower_in s b) lo) (r : ExcessIs (upper_in s b) up) where
+  pub block_good : BlockNumbers b d lo up → BlockIs s b d lo up × BlockGood s b
+  block_good h = (
+    record { delay_is = p; lower_is = q.is; upper_is = r.is; numbers = h },
+    numbers_block b (delay_in s b) (lower_in s b) (upper_in s b) q.fits r.fits (rw (p, q.is, r.is) at h),
+  )
 
-wire_tied : (s : List ℕ) (j f t w z : ℕ) (r : WireRead) → WireOf (blocks_in s) j f t w z r → f ≡ from_in s j → t ≡ to_in s j → w ≡ registers_in s j → z ≡ spare_in s j → WireGiven s j r
-wire_tied s j f t w z (W.Wire from to registers) h ef et ew ez =
-    let pf : from ≡ from_in s j = h.0 ∙ ef in
-    let pt : to ≡ to_in s j = h.1 ∙ et in
-    let pw : registers ≡ registers_in s j = h.2 ∙ ew in
-    let g = h.3 in (
-      record { from_is = pf; to_is = pt; registers_is = pw; from_block = g.from_block; to_block = g.to_block; few = g.few },
-      rw (pf, pt, pw, ez) at g,
-    )
-wire_tied s j f t w z (W.Refused k) h ef et ew ez = (h.0, λ g. h.1 (rw (ef, et, ew, ez) g))
+  pub block_bad : (BlockNumbers b d lo up → ⊥) → BlockGood s b → ⊥
+  block_bad h g = h (rw (p, q.is, r.is) (block_numbers b (delay_in s b) (lower_in s b) (upper_in s b) g))
 
-pub wire_given : (s : List ℕ) (n j f t w z : ℕ) (r : WireRead) → n ≡ blocks_in s → WireOf n j f t w z r
-    → f ≡ u16_at s (wire_at n j) → t ≡ u16_at s (wire_at n j + 2) → w ≡ u16_at s (wire_at n j + 4) → z ≡ u16_at s (wire_at n j + 6) → WireGiven s j r
-wire_given s n j f t w z r en h ef et ew ez = wire_tied s j f t w z r (rw en at h) (rw en at ef) (rw en at et) (rw en at ew) (rw en at ez)
+module _ (s : List ℕ) (n j f t w z : ℕ) (e : n ≡ blocks_in s)
+    (ef : f ≡ u16_at s (wire_at n j)) (et : t ≡ u16_at s (wire_at n j + 2)) (ew : w ≡ u16_at s (wire_at n j + 4)) (ez : z ≡ u16_at s (wire_at n j + 6)) where
+  pub wire_good : WireRule n f t w z → WireIs s j f t w × WireGood s j
+  wire_good g =
+      let pf : f ≡ from_in s j = rw e at ef in
+      let pt : t ≡ to_in s j = rw e at et in
+      let pw : w ≡ registers_in s j = rw e at ew in
+      let pz : z ≡ spare_in s j = rw e at ez in
+      let h : WireRule (blocks_in s) f t w z = rw e at g in (
+        record { from_is = pf; to_is = pt; registers_is = pw; from_block = h.from_block; to_block = h.to_block; few = h.few },
+        rw (pf, pt, pw, pz) at h,
+      )
+
+  pub wire_bad : (WireRule n f t w z → ⊥) → WireGood s j → ⊥
+  wire_bad h g = h (rw (e, ef, et, ew, ez, e) g)
 
 -- ---- what a reader's answer says once its case is known
 module _ (s : List ℕ) (i : ℕ) where
-  pub block_read : (r : BlockRead) (d l u : ℕ) → BlockGiven s i r → r ≡ B.Block d l u → BlockIs s i d l u × BlockGood s i
-  block_read r d l u h e = subst (BlockGiven s i) e h
+  pub block_read : (r : Result Block BadEntry) (block : Block) → BlockGiven s i r → r ≡ Ok block → BlockIs s i block.delay block.lower block.upper × BlockGood s i
+  block_read r block h e = subst (BlockGiven s i) e h
 
-  pub block_refused : (r : BlockRead) (k : ℕ) → BlockGiven s i r → r ≡ B.Refused k → BlockGood s i → ⊥
-  block_refused r k h e = (subst (BlockGiven s i) e h).1
+  pub block_refused : (r : Result Block BadEntry) (bad : BadEntry) → BlockGiven s i r → r ≡ Err bad → BlockGood s i → ⊥
+  block_refused r bad h e = (subst (BlockGiven s i) e h).1
 
-  pub wire_read : (r : WireRead) (f t w : ℕ) → WireGiven s i r → r ≡ W.Wire f t w → WireIs s i f t w × WireGood s i
-  wire_read r f t w h e = subst (WireGiven s i) e h
+  pub wire_read : (r : Result Wire BadEntry) (wire : Wire) → WireGiven s i r → r ≡ Ok wire → WireIs s i wire.from wire.to wire.registers × WireGood s i
+  wire_read r wire h e = subst (WireGiven s i) e h
 
-  pub wire_refused : (r : WireRead) (k : ℕ) → WireGiven s i r → r ≡ W.Refused k → WireGood s i → ⊥
-  wire_refused r k h e = (subst (WireGiven s i) e h).1
-
-pub frame_read : (s : List ℕ) (r : Frame) (n m : ℕ) → FrameGiven s r → r ≡ F.Counts n m → (n ≡ blocks_in s) × (m ≡ wires_in s) × Framed s
-frame_read s r n m h e = subst (FrameGiven s) e h
-
-pub frame_refused : (s : List ℕ) (r : Frame) (a : Answer) → FrameGiven s r → r ≡ F.Refused a → First (frame_rules s) a
-frame_refused s r a h e = subst (FrameGiven s) e h
+  pub wire_refused : (r : Result Wire BadEntry) (bad : BadEntry) → WireGiven s i r → r ≡ Err bad → WireGood s i → ⊥
+  wire_refused r bad h e = (subst (WireGiven s i) e h).1
 
 -- ---- the frame's refusals, one by one
 module _ (s : List ℕ) where
@@ -138,23 +129,20 @@ module _ (s : List ℕ) where
   framed_none f =
       (λ z. omega (arith, f.offsets.whole, f.some_block), (counts_right f.some_block f.few_blocks f.few_wires, (λ o. o f.offsets, tt)))
 
--- ---- the entries' refusals, one by one, from where the searches ended
-module _ (s : List ℕ) (n b : ℕ) (e : n ≡ blocks_in s) (f : FirstOf (λ k. BlockGood s k → ⊥) n b) where
-  blocks_searched : FirstOf (λ k. BlockGood s k → ⊥) (blocks_in s) b
-  blocks_searched = rw e at f
+-- ---- the entries' refusals, one by one, from where a search ended: at the first bad entry, or past all
+module _ (s : List ℕ) where
+  pub first_block : (b : ℕ) → b < blocks_in s → ((k : ℕ) → k < b → (BlockGood s k → ⊥) → ⊥) → (BlockGood s b → ⊥) → First (block_rules s) (answer 5 b 0)
+  first_block b h before bad =
+      let f : FirstOf (λ k. BlockGood s k → ⊥) (blocks_in s) b = search_stops _ _ b h before bad in
+      inl (place_found (λ k. BlockGood s k → ⊥) (blocks_in s) (λ k. answer 5 k 0) b f h)
 
-  pub block_bad : b < n → First (entry_rules s) (answer 5 b 0)
-  block_bad h = inl (place_found (λ k. BlockGood s k → ⊥) (blocks_in s) (λ k. answer 5 k 0) b blocks_searched (omega arith))
+  pub first_wire : (j : ℕ) → j < wires_in s → ((k : ℕ) → k < j → (WireGood s k → ⊥) → ⊥) → (WireGood s j → ⊥) → First (wire_rules s) (answer 6 j 0)
+  first_wire j h before bad =
+      let f : FirstOf (λ k. WireGood s k → ⊥) (wires_in s) j = search_stops _ _ j h before bad in
+      inl (place_found (λ k. WireGood s k → ⊥) (wires_in s) (λ k. answer 6 k 0) j f h)
 
-  pub blocks_good : n ≤ b → (k : ℕ) × (k < blocks_in s) × (BlockGood s k → ⊥) → ⊥
-  blocks_good h = place_none (λ k. BlockGood s k → ⊥) (blocks_in s) (λ k. answer 5 k 0) b blocks_searched (omega arith)
+  pub all_blocks : ((k : ℕ) → k < blocks_in s → (BlockGood s k → ⊥) → ⊥) → None (block_rules s)
+  all_blocks h = (λ w. h w.0 w.1 w.2, tt)
 
-  module _ (m j : ℕ) (g : m ≡ wires_in s) (w : FirstOf (λ k. WireGood s k → ⊥) m j) (h : n ≤ b) where
-    wires_searched : FirstOf (λ k. WireGood s k → ⊥) (wires_in s) j
-    wires_searched = rw g at w
-
-    pub wire_bad : j < m → First (entry_rules s) (answer 6 j 0)
-    wire_bad k = inr (blocks_good h, inl (place_found (λ i. WireGood s i → ⊥) (wires_in s) (λ i. answer 6 i 0) j wires_searched (omega arith)))
-
-    pub entries_good : m ≤ j → None (entry_rules s)
-    entries_good k = (blocks_good h, (place_none (λ i. WireGood s i → ⊥) (wires_in s) (λ i. answer 6 i 0) j wires_searched (omega arith), tt))
+  pub all_wires : ((k : ℕ) → k < wires_in s → (WireGood s k → ⊥) → ⊥) → None (wire_rules s)
+  all_wires h = (λ w. h w.0 w.1 w.2, tt)

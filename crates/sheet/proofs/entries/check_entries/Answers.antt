@@ -1,13 +1,10 @@
--- The first bad block is refusal 5, else the first bad wire 6, else none applies.
-use native.Mathlib.Omega.{arith}
-use Rattle.sheet.specs.Laws.Sheet.{block_bad, wire_bad, entries_good}
+-- Where the wires refuse, no block does.
+use Rattle.std.proofs.lemmas.Result.{err_from_is_err_and}
+use Rattle.sheet.specs.Sheet.{block_rules, wire_rules}
+use Rattle.sheet.specs.Laws.Rules.{first_right}
 use Rattle.sheet.proofs.entries.check_entries.Goals as goal
 
-pub returns-then-b-n : goal.returns-then-b-n
-returns-then-b-n c = rw c.refusal.ensures (block_bad c.args.s.now _ _ c.requires.1 c.first_bad_block-b.ensures (omega arith))
-
-pub returns-then-j-m : goal.returns-then-j-m
-returns-then-j-m c = rw c.refusal-then-j-m.ensures (wire_bad c.args.s.now _ _ c.requires.1 c.first_bad_block-b.ensures _ _ c.requires.2 c.first_bad_wire-j.ensures (omega arith) (omega arith))
-
-pub returns : goal.returns
-returns c = entries_good c.args.s.now _ _ c.requires.1 c.first_bad_block-b.ensures _ _ c.requires.2 c.first_bad_wire-j.ensures (omega arith) (omega arith)
+pub returns-in_err-check_wires-clause-staged : goal.returns-in_err-check_wires-clause-staged
+returns-in_err-check_wires-clause-staged c =
+    let p = err_from_is_err_and c.from_residual-in_err-check_wires.result c.from_residual-in_err-check_wires.ensures.1 in
+    rw (p.1, p.2) (first_right (block_rules c.args.sheet.bytes.now) (wire_rules c.args.sheet.bytes.now) _ c.in_ok-check_blocks.ensures c.in_err-check_wires.ensures)
