@@ -1,40 +1,48 @@
 // Heights over the register-free wires: the longest register-free path into each block, found in sweeps over those wires
 // alone. Where a sweep changes nothing, and each block has a delay, no loop is register-free.
 ghost use Rattle.std.specs.Prelude.{◌≡◌, ℕ, ◌+◌, ◌*◌, ◌<◌, ◌≤◌, length, get_or};
-ghost use Rattle.paths.specs.Lists.{held, list_shape, Wires, Delays};
+ghost use Rattle.paths.specs.Lists.{Delays};
 ghost use Rattle.paths.specs.Table.{LoopAt, Period};
 ghost use Rattle.paths.specs.Rise.{Listed, Lifted, Highest, Heights, Swept, Risen};
+ghost use Rattle.paths.specs.Wired.{wired, weights};
 
-use sheet::number::larger;
+use crate::wiring::Wiring;
 
-// The numbers of the wires without a register, in order, and how many they are.
-// Each number is stored, and counted only where it belongs: a test around the store takes longer than the store.
-fn free_wires(m: usize, registers: &[u32; 256], list: &mut [usize; 256]) -> usize
-    requires { (m ≤ 256) × (length registers.now ≡ 256) × (length list.old ≡ 256) }
-    ensures { Listed (held registers.now) m result list.new }
-{
-    let mut k: usize = 0;
-    let mut j: usize = 0;
-    while j < m {
-        list[k] = j;
-        if registers[j] == 0 {
-            k += 1;
-        }
-        j += 1;
-    }
-    k
+// The numbers of the wires without a register stand at the start of the list.
+#[derive(Clone, Copy)]
+struct FreeWires {
+    count: usize,
+    list: [usize; 256],
 }
 
-// The same wires from the last to the first: chains of wires that stand in reverse order rise in one sweep.
-// `registers` is what the list was made from.
-fn turned(m: usize, k: usize, registers: &[u32; 256], list: &[usize; 256], back: &mut [usize; 256])
-    requires { (m ≤ 256) × (length back.old ≡ 256) × Listed (held registers.now) m k list.now }
-    ensures { Listed (held registers.now) m k back.new }
-{
-    let mut i: usize = 0;
-    while i < k {
-        back[i] = list[k - 1 - i];
-        i += 1;
+impl FreeWires {
+    // In order. Each number is stored, and counted only where it belongs: a test around the store takes longer than the store.
+    fn of(wiring: &Wiring) -> FreeWires
+        ensures { Listed (weights wiring.now) wiring.now.m result.count result.list }
+    {
+        let mut count = 0;
+        let mut list = [0; 256];
+        for j in 0..wiring.m {
+            list[count] = j;
+            if wiring.registers[j] == 0 {
+                count += 1;
+            }
+        }
+        FreeWires { count, list }
+    }
+
+    // From the last to the first: chains of wires that stand in reverse order rise in one sweep.
+    // `wiring` is what the list was made from.
+    fn turned(&self, wiring: &Wiring) -> FreeWires
+        requires { Listed (weights wiring.now) wiring.now.m self.now.count self.now.list }
+        ensures { Listed (weights wiring.now) wiring.now.m result.count result.list }
+    {
+        let count = self.count;
+        let mut list = [0; 256];
+        for i in 0..count {
+            list[i] = self.list[count - 1 - i];
+        }
+        FreeWires { count, list }
     }
 }
 
@@ -45,36 +53,29 @@ fn lift(f: usize, t: usize, d: u32, heights: &mut [u32; 64]) -> bool
 {
     let x = heights[f] + d;
     let old = heights[t];
-    heights[t] = larger(x, old);
+    heights[t] = x.max(old);
     old < x
 }
 
 // One sweep over the listed wires: how many blocks rose. `done` counts the sweeps before it and bounds the heights.
 fn sweep(
-    n: usize,
-    m: usize,
+    wiring: &Wiring,
     delays: &[u32; 64],
-    from: &[usize; 256],
-    to: &[usize; 256],
-    registers: &[u32; 256],
-    k: usize,
-    list: &[usize; 256],
+    free: &FreeWires,
     done: usize,
     heights: &mut [u32; 64],
 ) -> usize
-    requires wires { Wires n m from.now to.now registers.now × Delays n delays.now × Listed (held registers.now) m k list.now × (done ≤ 64) }
-    requires heights { Heights (list_shape n m delays.now from.now to.now) (held registers.now) (256 * done) heights.old }
-    ensures { Swept (list_shape n m delays.now from.now to.now) (held registers.now) (256 * (done + 1)) heights.old heights.new result }
+    requires wires { Delays wiring.now.n delays.now × Listed (weights wiring.now) wiring.now.m free.now.count free.now.list × (done ≤ 64) }
+    requires heights { Heights (wired wiring.now delays.now) (weights wiring.now) (256 * done) heights.old }
+    ensures { Swept (wired wiring.now delays.now) (weights wiring.now) (256 * (done + 1)) heights.old heights.new result }
 {
-    let mut changed: usize = 0;
-    let mut i: usize = 0;
-    while i < k {
-        let j = list[i];
-        let t = to[j];
-        if lift(from[j], t, delays[t], heights) {
+    let mut changed = 0;
+    for i in 0..free.count {
+        let j = free.list[i];
+        let t = wiring.to[j];
+        if lift(wiring.from[j], t, delays[t], heights) {
             changed += 1;
         }
-        i += 1;
     }
     changed
 }
@@ -85,65 +86,40 @@ fn highest(n: usize, heights: &[u32; 64]) -> u32
     ensures { Highest heights.now n result }
 {
     let mut best = heights[0];
-    let mut v: usize = 1;
-    while v < n {
-        best = larger(best, heights[v]);
-        v += 1;
+    for v in 1..n {
+        best = best.max(heights[v]);
     }
     best
 }
 
-// The heights: sweeps forth and back until one changes nothing, and as many as there are blocks at most.
+// The heights: sweeps forth and back in turn until one changes nothing, and as many as there are blocks at most.
 // Register-free loops raise them without end: a height above `limit` ends the sweeps as well.
-pub fn rise(
-    n: usize,
-    m: usize,
-    delays: &[u32; 64],
-    from: &[usize; 256],
-    to: &[usize; 256],
-    registers: &[u32; 256],
-    limit: u32,
-    heights: &mut [u32; 64],
-) -> bool
-    requires { Wires n m from.now to.now registers.now × Delays n delays.now }
-    ensures { Risen (list_shape n m delays.now from.now to.now) (held registers.now) limit heights.new result }
+pub fn rise(wiring: &Wiring, delays: &[u32; 64], limit: u32, heights: &mut [u32; 64]) -> bool
+    requires { Delays wiring.now.n delays.now }
+    ensures { Risen (wired wiring.now delays.now) (weights wiring.now) limit heights.new result }
 {
-    let mut forth = [0usize; 256];
-    let mut back = [0usize; 256];
-    let k = free_wires(m, registers, &mut forth);
-    turned(m, k, registers, &forth, &mut back);
+    let forth = FreeWires::of(wiring);
+    let back = forth.turned(wiring);
     *heights = *delays;
-    let mut done: usize = 0;
-    while done < n {
-        if sweep(n, m, delays, from, to, registers, k, &forth, done, heights) == 0 {
+    for done in 0..wiring.n {
+        let free = if done % 2 == 0 { &forth } else { &back };
+        if sweep(wiring, delays, free, done, heights) == 0 {
             return true;
         }
-        let next = done + 1;
-        if sweep(n, m, delays, from, to, registers, k, &back, next, heights) == 0 {
-            return true;
-        }
-        if limit < highest(n, heights) {
+        if limit < highest(wiring.n, heights) {
             return false;
         }
-        done += 2;
     }
     false
 }
 
 // The longest delay of a register-free path, where no loop is register-free.
-pub fn longest_free(
-    n: usize,
-    m: usize,
-    delays: &[u32; 64],
-    from: &[usize; 256],
-    to: &[usize; 256],
-    registers: &[u32; 256],
-) -> u32
-    requires wires { Wires n m from.now to.now registers.now × Delays n delays.now }
-    requires by_index { (b : ℕ) → LoopAt (list_shape n m delays.now from.now to.now) (held registers.now) b → ⊥ }
-    ensures { Period (list_shape n m delays.now from.now to.now) (held registers.now) result }
+pub fn longest_free(wiring: &Wiring, delays: &[u32; 64]) -> u32
+    requires delays { Delays wiring.now.n delays.now }
+    requires no_loop { (b : ℕ) → LoopAt (wired wiring.now delays.now) (weights wiring.now) b → ⊥ }
+    ensures { Period (wired wiring.now delays.now) (weights wiring.now) result }
 {
-    let mut heights = [0u32; 64];
-    rise(n, m, delays, from, to, registers, 4294967295, &mut heights);
-    highest(n, &heights)
+    let mut heights = [0; 64];
+    rise(wiring, delays, 4294967295, &mut heights);
+    highest(wiring.n, &heights)
 }

@@ -10,8 +10,8 @@ pub struct Opened<'a> {
     pub n: usize,
     pub m: usize,
     pub ghost framed: { Framed bytes.now },
-    pub ghost blocks: { n ≡ blocks_in bytes.now },
-    pub ghost wires: { m ≡ wires_in bytes.now },
+    pub ghost n_is: { n ≡ blocks_in bytes.now },
+    pub ghost m_is: { m ≡ wires_in bytes.now },
 }
 
 // A sheet that 5 and 6 pass as well.
@@ -21,6 +21,6 @@ pub struct Formed<'a> {
     pub n: usize,
     pub m: usize,
     pub ghost formed: { FormedSheet bytes.now },
-    pub ghost blocks: { n ≡ blocks_in bytes.now },
-    pub ghost wires: { m ≡ wires_in bytes.now },
+    pub ghost n_is: { n ≡ blocks_in bytes.now },
+    pub ghost m_is: { m ≡ wires_in bytes.now },
 }

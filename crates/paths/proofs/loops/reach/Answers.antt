@@ -4,10 +4,7 @@ use Rattle.paths.specs.Laws.Loops.{reach_start, reach_less, reach_end}
 use Rattle.paths.proofs.loops.reach.Goals as goal
 
 pub loop-init : goal.loop-init
-loop-init c = reach_start _ _ _ c.requires.1 c.requires.0.few_blocks
-
-pub spread-requires : goal.spread-requires
-spread-requires c = (c.requires.0, c.loop.invariant.0)
+loop-init c = reach_start _ _ _ c.requires c.args.wiring.now.wires.few_blocks
 
 pub loop-smaller : goal.loop-smaller
 loop-smaller c = reach_less _ _ _ _ _ _ c.spread.ensures (omega arith)

@@ -1,13 +1,13 @@
--- Sweep after sweep covers one wire more; one that changes nothing settles the heights.
-use mathlib.Core.Path.{◌≡◌}
-use Prim.Native.Nat.{◌≤◌, ◌-◌, ◌*◌, ◌+◌}
-use lib.ListN.{length}
-use Rattle.paths.specs.Lists.{list_shape, held}
-use Rattle.paths.specs.Rise.{Heights, Covered}
+-- After `done` sweeps the heights are paths', and every path of at most so many wires is covered.
+use Rattle.std.proofs.Common.{◌≡◌, ◌*◌, length}
+use Rattle.paths.specs.Rise.{Listed, Heights, Covered}
+use Rattle.paths.specs.Wired.{wired, weights}
 use Rattle.paths.proofs.rise.rise.Given as goal
 
 abbrev pub invariant-loop-done : goal.invariant-loop-done
-invariant-loop-done l = (l.done ≤ l.n + 1) × (length l.heights ≡ 64) × Heights (list_shape l.n l.m l.delays l.from l.to) (held l.registers) (256 * l.done) l.heights × Covered (list_shape l.n l.m l.delays l.from l.to) (held l.registers) l.done l.heights
-
-abbrev pub decreases-loop-done : goal.decreases-loop-done
-decreases-loop-done l = l.n + 1 - l.done
+invariant-loop-done l =
+    (length l.heights ≡ 64)
+    × Heights (wired l.wiring l.delays) (weights l.wiring) (256 * l.done) l.heights
+    × Covered (wired l.wiring l.delays) (weights l.wiring) l.done l.heights
+    × Listed (weights l.wiring) l.wiring.m l.forth.count l.forth.list
+    × Listed (weights l.wiring) l.wiring.m l.back.count l.back.list
