@@ -1,43 +1,33 @@
 // The path table, row after row; the question path table.
 #![tactic(auto)]
 
-ghost use Rattle.std.specs.Prelude.{◌≡◌};
-ghost use Rattle.sheet.specs.Core.{blocks_in, wires_in};
-ghost use Rattle.sheet.specs.Rules.{First};
-ghost use Rattle.sheet.specs.Sheet.{Framed};
-ghost use Rattle.tables.specs.Questions.{TableRight, table_after_frame, table_outcome};
+ghost use Rattle.sheet.specs.Rules.{said};
+ghost use Rattle.tables.specs.Questions.{TableRight, table_outcome};
 
+use paths::room::check_room;
 use paths::sound::check_sound;
-use sheet::answer::{Answer, Stage, done, refusal};
-use sheet::frame::{Frame, read_frame};
+use sheet::answer::Answer;
+use sheet::frame::read_frame;
+use sheet::refusal::Refusal;
 
+pub mod costed; // what the rows are filled from
 mod row; // one row of the path table
 pub mod table; // the path table, row after row
 
-// The path table of a sheet whose header is right.
-fn table_framed(s: &[u8], n: usize, m: usize, registers: &mut [u32], delays: &mut [u32]) -> Answer
-    requires { Framed s.now × (n ≡ blocks_in s.now) × (m ≡ wires_in s.now) }
-    ensures { First (table_after_frame s.now registers.old delays.old) (table_outcome result registers.new delays.new) }
+fn tabled(sheet: &[u8], registers: &mut [u32], delays: &mut [u32]) -> Result<u32, Refusal>
+    ensures { TableRight sheet.now registers.old delays.old (table_outcome (said result) registers.new delays.new) }
 {
-    if registers.len() < n * n {
-        return refusal(4, 0);
-    }
-    if delays.len() < n * n {
-        return refusal(4, 1);
-    }
-    if let Stage::Refuse(a) = check_sound(s, n, m) {
-        return a;
-    }
-    table::write_table(s, n, m, registers, delays);
-    done(0)
+    let opened = read_frame(sheet)?;
+    let entries = opened.n * opened.n;
+    check_room(registers.len(), entries, delays.len(), entries)?;
+    let sound = check_sound(opened)?;
+    table::write_table(sound, registers, delays);
+    Ok(0)
 }
 
 // The path table of a sheet, in the first n² entries of both lists.
 pub fn path_table(sheet: &[u8], registers: &mut [u32], delays: &mut [u32]) -> Answer
     ensures { TableRight sheet.now registers.old delays.old (table_outcome result registers.new delays.new) }
 {
-    match read_frame(sheet) {
-        Frame::Refused(a) => a,
-        Frame::Counts(n, m) => table_framed(sheet, n, m, registers, delays),
-    }
+    Answer::of(tabled(sheet, registers, delays))
 }

@@ -1,13 +1,13 @@
 -- Keys: decoding goes through stores, the lower key is the pair ahead, and what trying a wire on keys comes to.
 -- Assumes nothing.
-use Rattle.std.specs.Prelude.{◌≡◌, true, false, ◌⊎◌, ltb, length, get_or}
+use Rattle.std.specs.Prelude.{◌≡◌, true, false, ◌⊎◌, ltb, length, get_or, replicate}
 use Rattle.std.proofs.Math.Path.{refl, ap}
 use Rattle.std.proofs.Common.{sym, ◌∙◌, inl, inr, arith, lt-ltb, le-ltb, length-set, get_or-set_same, get_or-set_other}
 use mathlib.Core.List.{List, [], ◌∷◌}
 use Prim.Native.Nat.{ℕ, zero, suc, ◌+◌, ◌*◌, ◌%◌, ◌≤◌, ◌<◌, min}
 use Rattle.std.proofs.Math.Decide.{ℕ_discrete, dec_lt}
 use Rattle.std.proofs.Math.ListN.{set}
-use Rattle.std.proofs.lemmas.List.{set-get_or}
+use Rattle.std.proofs.lemmas.List.{set-get_or, get_or-replicate}
 use Rattle.sheet.specs.Core.{Shape}
 use Rattle.sheet.specs.Filled.{filled}
 use Rattle.sheet.specs.Laws.Filled.{length_filled, filled_at}
@@ -83,6 +83,16 @@ costs_of n m delays from to registers costs₀ costs a b l e = record {
         b.small (get_or to j 0) (a.to_block j h),
       );
 }
+
+-- a list that is blank throughout is blank in its first n entries
+pub filled_blank : (x n room : ℕ) → n ≤ room → filled (λ _. x) n (replicate room x) ≡ replicate room x
+unfolding filled
+filled_blank x zero room h = refl
+filled_blank x (suc n) room h =
+    rw (filled_blank x n room (omega arith)) (
+    let e : get_or {A = ℕ} (replicate room x) n 0 ≡ x = get_or-replicate {A = ℕ} room n x 0 (omega arith) in
+    rw e at (set-get_or (replicate room x) n 0)
+    )
 
 pub cost_few : (s : Shape) (w : ℕ → ℕ) (costs : List ℕ) (j c : ℕ) → Costs s w costs → j < s.m → w j ≤ 2000 → c ≡ get_or costs j 0 → c ≤ 8589934602000
 cost_few s w costs j c k l h e = omega (arith, k.cost j l)

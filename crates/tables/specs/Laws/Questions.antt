@@ -1,6 +1,6 @@
 -- How the question path table ends.
 -- Assumes nothing.
-use Rattle.std.specs.Prelude.{◌≡◌, refl, List, [], ◌∷◌, ◌++◌, ℕ, ◌*◌, ◌≤◌, ◌<◌, length}
+use Rattle.std.specs.Prelude.{◌≡◌, refl, List, [], ◌∷◌, ◌++◌, ℕ, ◌*◌, length}
 use Rattle.std.proofs.Common.{inl, inr, arith}
 use Rattle.sheet.specs.Core.{blocks_in, registers_in, shape_of}
 use Rattle.sheet.specs.Rules.{Rule, First, None, answer, stage}
@@ -31,37 +31,26 @@ module _ (s r d : List ℕ) where
   pub table_rest : (o : TableOutcome) → Framed s → First (table_after_frame s r d) o → TableRight s r d o
   table_rest o f h = goes_on keep (frame_rules s) (table_after_frame s r d) o (framed_none s f) h
 
-  module _ (n : ℕ) (n_is : n ≡ blocks_in s) where
-    square : n * n ≡ blocks_in s * blocks_in s
-    square = rw n_is
+  pub table_short : (a : Answer) → First room a → First (table_after_frame s r d) (table_outcome a r d)
+  table_short a f = ends keep room (stage keep (sound_rules s) ++ last) a f
 
-    pub first_short : length r < n * n → First (table_after_frame s r d) (table_outcome (answer 4 0 0) r d)
-    first_short h = ends keep room (stage keep (sound_rules s) ++ last) (answer 4 0 0) (inl (omega (arith, square), refl))
+  module _ (roomy : None room) where
+    pub table_unsound : (a : Answer) → First (sound_rules s) a → First (table_after_frame s r d) (table_outcome a r d)
+    table_unsound a f =
+        goes_on keep room (stage keep (sound_rules s) ++ last) (table_outcome a r d) roomy (ends keep (sound_rules s) last a f)
 
-    pub second_short : n * n ≤ length r → length d < n * n → First (table_after_frame s r d) (table_outcome (answer 4 1 0) r d)
-    second_short g h =
-        ends keep room (stage keep (sound_rules s) ++ last) (answer 4 1 0) (inr (λ k. omega (arith, square), inl (omega (arith, square), refl)))
-
-    module _ (g : n * n ≤ length r) (h : n * n ≤ length d) where
-      roomy : None room
-      roomy = (λ k. omega (arith, square), (λ k. omega (arith, square), tt))
-
-      pub table_unsound : (a : Answer) → First (sound_rules s) a → First (table_after_frame s r d) (table_outcome a r d)
-      table_unsound a f =
-          goes_on keep room (stage keep (sound_rules s) ++ last) (table_outcome a r d) roomy (ends keep (sound_rules s) last a f)
-
-      pub table_sound : (r' d' : List ℕ) → None (sound_rules s) → Rows (shape_of s) (registers_in s) n r d r' d' → First (table_after_frame s r d) (table_outcome (answer 0 0 0) r' d')
-      table_sound r' d' k t =
-          goes_on keep room (stage keep (sound_rules s) ++ last) _ roomy
-          (goes_on keep (sound_rules s) last _ k (inl (
-            tt,
-            record {
-              says_done = refl;
-              table = λ u v a b. t.entry u v (omega arith) b;
-              registers_kept = t.ws_kept;
-              delays_kept = t.ds_kept;
-            },
-          )))
+    pub table_sound : (n : ℕ) → n ≡ blocks_in s → (r' d' : List ℕ) → None (sound_rules s) → Rows (shape_of s) (registers_in s) n r d r' d' → First (table_after_frame s r d) (table_outcome (answer 0 0 0) r' d')
+    table_sound n n_is r' d' k t =
+        goes_on keep room (stage keep (sound_rules s) ++ last) _ roomy
+        (goes_on keep (sound_rules s) last _ k (inl (
+          tt,
+          record {
+            says_done = refl;
+            table = λ u v a b. t.entry u v (omega (arith, n_is)) b;
+            registers_kept = t.ws_kept;
+            delays_kept = t.ds_kept;
+          },
+        )))
 
 -- path table answers 0 only with the table of a sound sheet
 pub table_means : (s r d : List ℕ) (o : TableOutcome) → TableRight s r d o → o.says.number ≡ 0 → SoundSheet s × TableDone s r d o

@@ -1,14 +1,13 @@
--- Wire after wire is tried; what has been tried stays tried.
-use mathlib.Core.Path.{◌≡◌}
-use Prim.Native.Nat.{◌≤◌, ◌-◌, ◌*◌}
-use lib.ListN.{length}
-use Rattle.paths.specs.Lists.{list_shape, held}
+-- The wires below j were tried.
+use Rattle.std.proofs.Common.{◌≤◌, ◌*◌}
+use Rattle.tables.specs.Costed.{shape_of, weights_of}
 use Rattle.tables.specs.Keys.{row_w, row_d, Whole}
 use Rattle.tables.specs.Laws.Relax.{Part}
 use Rattle.tables.proofs.row.round.Given as goal
 
 abbrev pub invariant-loop-j : goal.invariant-loop-j
-invariant-loop-j l = (l.j ≤ l.m) × (l.changed ≤ l.j) × (length l.keys ≡ length l.initial.keys) × Whole l.n l.keys × Part (list_shape l.n l.m l.delays l.from l.to) (held l.registers) l.u (256 * l.done) l.j (row_w l.n l.initial.keys) (row_d l.n l.initial.keys) (row_w l.n l.keys) (row_d l.n l.keys) l.changed
-
-abbrev pub decreases-loop-j : goal.decreases-loop-j
-decreases-loop-j l = l.m - l.j
+invariant-loop-j l =
+    let n = l.costed.wiring.now.n in
+    (l.changed ≤ l.j)
+    × Whole n l.keys
+    × Part (shape_of l.costed) (weights_of l.costed) l.u (256 * l.done) l.j (row_w n l.initial.keys) (row_d n l.initial.keys) (row_w n l.keys) (row_d n l.keys) l.changed

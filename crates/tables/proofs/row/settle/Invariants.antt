@@ -1,14 +1,10 @@
--- Round after round covers one wire more; n rounds, or one that changes nothing, give the row.
-use mathlib.Core.Path.{◌≡◌}
-use Prim.Native.Nat.{◌≤◌, ◌-◌}
-use lib.ListN.{length}
-use Rattle.paths.specs.Lists.{list_shape, held}
+-- After `done` rounds the row is ahead of every path of at most so many wires.
+use Rattle.tables.specs.Costed.{shape_of, weights_of}
 use Rattle.tables.specs.Keys.{row_w, row_d, Whole}
 use Rattle.tables.specs.Laws.Filling.{Filling}
 use Rattle.tables.proofs.row.settle.Given as goal
 
 abbrev pub invariant-loop-done : goal.invariant-loop-done
-invariant-loop-done l = (l.done ≤ l.n) × (length l.keys ≡ 64) × Whole l.n l.keys × Filling (list_shape l.n l.m l.delays l.from l.to) (held l.registers) l.u l.done (row_w l.n l.keys) (row_d l.n l.keys)
-
-abbrev pub decreases-loop-done : goal.decreases-loop-done
-decreases-loop-done l = l.n - l.done
+invariant-loop-done l =
+    let n = l.costed.wiring.now.n in
+    Whole n l.keys × Filling (shape_of l.costed) (weights_of l.costed) l.u l.done (row_w n l.keys) (row_d n l.keys)

@@ -1,5 +1,4 @@
 -- Key after key is decoded.
-use Prim.Native.Nat.{◌≤◌, ◌-◌}
 use mathlib.Core.Path.{◌≡◌}
 use lib.ListN.{length, get_or}
 use Rattle.sheet.specs.Filled.{filled}
@@ -7,7 +6,4 @@ use Rattle.tables.specs.Keys.{key_w, key_d}
 use Rattle.tables.proofs.row.unpack.Given as goal
 
 abbrev pub invariant-loop-v : goal.invariant-loop-v
-invariant-loop-v l = (l.v ≤ l.n) × (length l.ws ≡ length l.initial.ws) × (length l.ds ≡ length l.initial.ds) × (l.ws ≡ filled (λ k. key_w (get_or l.keys k 0)) l.v l.initial.ws) × (l.ds ≡ filled (λ k. key_d (get_or l.keys k 0)) l.v l.initial.ds)
-
-abbrev pub decreases-loop-v : goal.decreases-loop-v
-decreases-loop-v l = l.n - l.v
+invariant-loop-v l = (length l.ws ≡ length l.initial.ws) × (length l.ds ≡ length l.initial.ds) × (l.ws ≡ filled (λ k. key_w (get_or l.keys k 0)) l.v l.initial.ws) × (l.ds ≡ filled (λ k. key_d (get_or l.keys k 0)) l.v l.initial.ds)

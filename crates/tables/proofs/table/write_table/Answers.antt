@@ -1,24 +1,29 @@
--- The lists hold the sheet's core, so the table is the sheet's.
-use Prim.Native.Nat.{ℕ}
-use lib.ListN.{length-replicate}
+-- The lists hold the sheet, and its table is theirs.
+use Rattle.std.proofs.Common.{◌≡◌, ◌∙◌, sym}
 use Rattle.paths.specs.Laws.Same.{loop_same}
 use Rattle.paths.specs.Laws.Loaded.{loaded}
-use Rattle.tables.specs.Laws.Keys.{costs_of}
 use Rattle.tables.specs.Laws.Tables.{rows_same}
 use Rattle.tables.proofs.table.write_table.Goals as goal
 
-pub weigh-requires : goal.weigh-requires
-weigh-requires c = let h = loaded c.args.s.now c.requires.formed_sheet.0 _ _ c.requires.formed_sheet.1 c.requires.formed_sheet.2 _ _ _ _ _ _ _ _ (length-replicate {A = ℕ} 256 0) (length-replicate {A = ℕ} 256 0) (length-replicate {A = ℕ} 256 0) (length-replicate {A = ℕ} 64 0) c.load_wires.ensures c.load_delays.ensures in
-    record {
-      delays = (h.delays_in, h.wires.few_blocks, h.wires.few_wires, h.wires.to_long, h.wires.registers_long, length-replicate {A = ℕ} 256 0);
-      by_index = h.wires.to_block;
-      by_index_2 = h.wires.few;
-    }
+pub of-requires : goal.of-requires
+of-requires c =
+    let f = c.formed-formed.result in
+    (loaded f.bytes.now f.formed c.of-wiring.result c.of-wiring.ensures f.n f.n_is _ c.delays-delays.ensures).delays_in
 
 pub fill_table-requires : goal.fill_table-requires
-fill_table-requires c = let h = loaded c.args.s.now c.requires.formed_sheet.0 _ _ c.requires.formed_sheet.1 c.requires.formed_sheet.2 _ _ _ _ _ _ _ _ (length-replicate {A = ℕ} 256 0) (length-replicate {A = ℕ} 256 0) (length-replicate {A = ℕ} 256 0) (length-replicate {A = ℕ} 64 0) c.load_wires.ensures c.load_delays.ensures in
-    record { wires = (h.wires, h.delays_in, c.requires.formed_sheet.3, c.requires.formed_sheet.4, costs_of _ _ _ _ _ _ _ _ h.wires h.delays_in (length-replicate {A = ℕ} 256 0) c.weigh.ensures); by_index = λ b l. c.requires.by_index b (loop_same h.same b l) }
+fill_table-requires c =
+    let f = c.formed-formed.result in
+    let h = loaded f.bytes.now f.formed c.of-wiring.result c.of-wiring.ensures f.n f.n_is _ c.delays-delays.ensures in
+    let e : c.of-wiring.result.n ≡ c.args.sheet.n = c.of-wiring.ensures.n_is ∙ sym f.n_is ∙ c.formed-formed.ensures.1 in
+    rw (c.of.ensures.0, c.of.ensures.1) (record {
+      lists = rw e c.requires;
+      no_loop = λ b l. c.args.sheet.sound.free b (rw c.formed-formed.ensures.0 at (loop_same h.same b l));
+    })
 
 pub returns : goal.returns
-returns c = let h = loaded c.args.s.now c.requires.formed_sheet.0 _ _ c.requires.formed_sheet.1 c.requires.formed_sheet.2 _ _ _ _ _ _ _ _ (length-replicate {A = ℕ} 256 0) (length-replicate {A = ℕ} 256 0) (length-replicate {A = ℕ} 256 0) (length-replicate {A = ℕ} 64 0) c.load_wires.ensures c.load_delays.ensures in
-    rows_same _ h.same h.same_delays c.fill_table.ensures
+returns c =
+    let f = c.formed-formed.result in
+    let h = loaded f.bytes.now f.formed c.of-wiring.result c.of-wiring.ensures f.n f.n_is _ c.delays-delays.ensures in
+    let e : c.of-wiring.result.n ≡ c.args.sheet.n = c.of-wiring.ensures.n_is ∙ sym f.n_is ∙ c.formed-formed.ensures.1 in
+    let r = rw (c.of.ensures.0, c.of.ensures.1) at c.fill_table.ensures in
+    rw (c.formed-formed.ensures.0, e) at (rows_same _ h.same h.same_delays r)
