@@ -33,11 +33,14 @@ abbrev pub move_outcome : Answer → List ℕ → MoveOutcome
 move_outcome a l = record { says = a; moved = l }
 
 -- 8: "move: a lag outside its range", place "first such block"; 9: "move: a wire would leave 0 to 2,000", place "first such wire"
+abbrev pub range_rules : List ℕ → (ℕ → ℤ) → List (Rule Answer)
+range_rules s r = first_place (λ b. InRange (core_of s) r b → ⊥) (blocks_in s) (λ b. answer 8 b 0) ∷ []
+
+abbrev pub fit_rules : List ℕ → (ℕ → ℤ) → List (Rule Answer)
+fit_rules s r = first_place (λ j. Fits (core_of s) r j → ⊥) (wires_in s) (λ j. answer 9 j 0) ∷ []
+
 abbrev pub lag_rules : List ℕ → (ℕ → ℤ) → List (Rule Answer)
-lag_rules s r =
-    first_place (λ b. InRange (core_of s) r b → ⊥) (blocks_in s) (λ b. answer 8 b 0)
-    ∷ first_place (λ j. Fits (core_of s) r j → ⊥) (wires_in s) (λ j. answer 9 j 0)
-    ∷ []
+lag_rules s r = range_rules s r ++ fit_rules s r
 
 -- the first bytes of the lent list are the moved sheet, and all past them is as it was
 pub record MoveDone (s : List ℕ) (r : ℕ → ℤ) (l : List ℕ) (o : MoveOutcome) : Type 0 where

@@ -1,16 +1,14 @@
 // Whether lags are permitted: refusals 8 and 9.
-ghost use Rattle.std.specs.Prelude.{◌≡◌, ◌<◌, ◌≤◌, pos, length, get_or};
-ghost use Rattle.sheet.specs.Core.{core_of, blocks_in, wires_in};
+ghost use Rattle.std.specs.Prelude.{◌≡◌, ◌<◌, ◌≤◌, pos, length, get_or, IfOk};
+ghost use Rattle.sheet.specs.Core.{core_of};
 ghost use Rattle.sheet.specs.Reads.{ExcessIs};
-ghost use Rattle.sheet.specs.Rules.{FirstOf, Staged, Told};
-ghost use Rattle.sheet.specs.Sheet.{FormedSheet};
-ghost use Rattle.moves.specs.Lags.{lags_in, InRange, Fits};
-ghost use Rattle.moves.specs.Move.{lag_rules};
+ghost use Rattle.sheet.specs.Rules.{Staged, Told};
+ghost use Rattle.moves.specs.Lags.{lags_in, InRange, Fits, Permitted};
+ghost use Rattle.moves.specs.Move.{range_rules, fit_rules, lag_rules};
 
-use sheet::answer::{Stage, refusal};
-use sheet::block::{BlockRead, read_block};
 use sheet::lag::excess_of;
-use sheet::wire::{WireRead, read_wire};
+use sheet::opened::Formed;
+use sheet::refusal::Refusal;
 
 // The excess number of block b's lag.
 pub fn lag_at(lags: &[i16], b: usize) -> u32
@@ -20,83 +18,73 @@ pub fn lag_at(lags: &[i16], b: usize) -> u32
     excess_of(lags[b])
 }
 
-fn in_range(s: &[u8], lags: &[i16], b: usize) -> bool
-    requires { FormedSheet s.now × (b < blocks_in s.now) × (blocks_in s.now ≤ length lags.now) }
-    ensures { Told (InRange (core_of s.now) (lags_in lags.now) b) result }
-{
-    let BlockRead::Block(_, lower, upper) = read_block(s, b) else {
-        return false;
-    };
-    let e = lag_at(lags, b);
-    if e < lower {
-        return false;
-    }
-    if upper < e {
-        return false;
-    }
-    true
+// A sheet and a lag for each of its blocks.
+#[derive(Clone, Copy)]
+pub struct Asked<'a> {
+    pub sheet: Formed<'a>,
+    pub lags: &'a [i16],
+    pub ghost enough: { sheet.n ≤ length lags.now },
 }
 
-fn wire_fits(s: &[u8], n: usize, lags: &[i16], j: usize) -> bool
-    requires { FormedSheet s.now × (n ≡ blocks_in s.now) × (j < wires_in s.now) × (n ≤ length lags.now) }
-    ensures { Told (Fits (core_of s.now) (lags_in lags.now) j) result }
-{
-    let WireRead::Wire(f, t, w) = read_wire(s, n, j) else {
-        return false;
-    };
-    let a = lag_at(lags, f);
-    let b = lag_at(lags, t);
-    if w + b < a {
-        return false;
-    }
-    if a + 2000 < w + b {
-        return false;
-    }
-    true
+// The same where the lags are permitted.
+#[derive(Clone, Copy)]
+pub struct Move<'a> {
+    pub sheet: Formed<'a>,
+    pub lags: &'a [i16],
+    pub ghost enough: { sheet.n ≤ length lags.now },
+    pub ghost permitted: { Permitted (core_of sheet.bytes.now) (lags_in lags.now) },
 }
 
-// The first block whose lag is outside its range, or n.
-fn first_out_of_range(s: &[u8], n: usize, lags: &[i16]) -> usize
-    requires { FormedSheet s.now × (n ≡ blocks_in s.now) × (n ≤ length lags.now) }
-    ensures { FirstOf (λ b. InRange (core_of s.now) (lags_in lags.now) b → ⊥) n result }
+fn in_range(asked: Asked<'_>, b: usize) -> bool
+    requires { b < asked.sheet.n }
+    ensures { Told (InRange (core_of asked.entry.sheet.bytes.now) (lags_in asked.entry.lags.now) b) result }
 {
-    let mut b = 0;
-    while b < n {
-        if !in_range(s, lags, b) {
-            return b;
+    let block = asked.sheet.block(b);
+    let e = lag_at(asked.lags, b);
+    block.lower <= e && e <= block.upper
+}
+
+fn wire_fits(asked: Asked<'_>, j: usize) -> bool
+    requires { j < asked.sheet.m }
+    ensures { Told (Fits (core_of asked.entry.sheet.bytes.now) (lags_in asked.entry.lags.now) j) result }
+{
+    let wire = asked.sheet.wire(j);
+    let a = lag_at(asked.lags, wire.from);
+    let b = lag_at(asked.lags, wire.to);
+    a <= wire.registers + b && wire.registers + b <= a + 2000
+}
+
+fn check_ranges(asked: Asked<'_>) -> Result<(), Refusal>
+    ensures { Staged (range_rules asked.entry.sheet.bytes.now (lags_in asked.entry.lags.now)) result }
+{
+    for b in 0..asked.sheet.n {
+        if !in_range(asked, b) {
+            return Err(Refusal::Lag(b as u32));
         }
-        b += 1;
     }
-    n
+    Ok(())
 }
 
-// The first wire that would leave its limits, or m.
-fn first_misfit(s: &[u8], n: usize, m: usize, lags: &[i16]) -> usize
-    requires { FormedSheet s.now × (n ≡ blocks_in s.now) × (m ≡ wires_in s.now) × (n ≤ length lags.now) }
-    ensures { FirstOf (λ j. Fits (core_of s.now) (lags_in lags.now) j → ⊥) m result }
+fn check_wires(asked: Asked<'_>) -> Result<(), Refusal>
+    ensures { Staged (fit_rules asked.entry.sheet.bytes.now (lags_in asked.entry.lags.now)) result }
 {
-    let mut j = 0;
-    while j < m {
-        if !wire_fits(s, n, lags, j) {
-            return j;
+    for j in 0..asked.sheet.m {
+        if !wire_fits(asked, j) {
+            return Err(Refusal::Registers(j as u32));
         }
-        j += 1;
     }
-    m
+    Ok(())
 }
 
 // Refusals 8 and 9 of a formed sheet.
-pub fn check_lags(s: &[u8], n: usize, m: usize, lags: &[i16]) -> Stage
-    requires { FormedSheet s.now × (n ≡ blocks_in s.now) × (m ≡ wires_in s.now) × (n ≤ length lags.now) }
-    ensures { Staged (lag_rules s.now (lags_in lags.now)) result }
+pub fn check_lags(asked: Asked<'_>) -> Result<Move<'_>, Refusal>
+    ensures staged { Staged (lag_rules asked.entry.sheet.bytes.now (lags_in asked.entry.lags.now)) result }
+    ensures same { IfOk result (λ m. (m.sheet.bytes.now ≡ asked.entry.sheet.bytes.now) × (m.lags.now ≡ asked.entry.lags.now)) }
 {
-    let b = first_out_of_range(s, n, lags);
-    if b < n {
-        return Stage::Refuse(refusal(8, b));
-    }
-    let j = first_misfit(s, n, m, lags);
-    if j < m {
-        return Stage::Refuse(refusal(9, j));
-    }
-    Stage::Pass
+    check_ranges(asked)?;
+    check_wires(asked)?;
+    Ok(Move {
+        sheet: asked.sheet,
+        lags: asked.lags,
+    })
 }

@@ -1,95 +1,69 @@
 // The moved sheet is written: the sheet is copied, then each field that changes is put anew.
-ghost use Rattle.std.specs.Prelude.{◌≡◌, ◌+◌, ◌*◌, ◌<◌, ◌≤◌, length};
-ghost use Rattle.sheet.specs.Core.{core_of, blocks_in, wires_in};
-ghost use Rattle.sheet.specs.Sheet.{FormedSheet};
-ghost use Rattle.moves.specs.Lags.{lags_in, Permitted};
-ghost use Rattle.moves.specs.Write.{LimitRead, RegistersMoved, copied, limits_from, limit_bits, puts, registers_from, moved_registers, written};
+ghost use Rattle.std.specs.Prelude.{◌≡◌, ◌<◌, ◌≤◌, length};
+ghost use Rattle.moves.specs.Lags.{lags_in};
+ghost use Rattle.moves.specs.Write.{RegistersMoved, copied, limits_from, limit_bits, puts, registers_from, moved_registers, written};
 
-use crate::lags::lag_at;
-use sheet::block::{BlockRead, read_block};
+use crate::lags::{Move, lag_at};
+use sheet::block::Limit;
 use sheet::bytes::{put_lag, put_u16};
-use sheet::wire::{WireRead, read_wire};
 
 fn copy_sheet(s: &[u8], moved: &mut [u8])
     requires { length s.now ≤ length moved.old }
     ensures { moved.new ≡ copied s.now moved.old }
 {
-    let mut i = 0;
-    while i < s.len() {
-        moved[i] = s[i];
-        i += 1;
+    moved[..s.len()].copy_from_slice(s);
+}
+
+// Where the limits of this kind stand: in block 0, and in each block at the same place.
+fn limits_from(which: Limit) -> usize
+    ensures { (result ≡ limits_from which) × (result ≤ 22) }
+{
+    match which {
+        Limit::Lower => 20,
+        Limit::Upper => 22,
     }
 }
 
-// A block's upper limit where top is true, else its lower one.
-fn limit_at(s: &[u8], top: bool, b: usize) -> u32
-    requires { FormedSheet s.now × (b < blocks_in s.now) }
-    ensures { LimitRead s.now top b result }
-{
-    let BlockRead::Block(_, lower, upper) = read_block(s, b) else {
-        return 0;
-    };
-    if top {
-        return upper;
+impl<'a> Move<'a> {
+    // One limit of each block, less its lag.
+    fn put_limits(self, which: Limit, moved: &mut [u8])
+        requires { length self.sheet.bytes.now ≤ length moved.old }
+        ensures { moved.new ≡ puts (limits_from which) (limit_bits self.entry.sheet.bytes.now (lags_in self.entry.lags.now) which) self.entry.sheet.n moved.old }
+    {
+        let base = limits_from(which);
+        for b in 0..self.sheet.n {
+            let limit = self.sheet.block(b).limit(which);
+            put_lag(moved, base + 8 * b, limit + 32768 - lag_at(self.lags, b));
+        }
     }
-    lower
-}
 
-fn limits_from(top: bool) -> usize
-    ensures { (result ≡ limits_from top) × (result ≤ 22) }
-{
-    if top {
-        return 22;
+    // The registers of wire j once moved.
+    fn registers(self, j: usize) -> u32
+        requires { j < self.sheet.m }
+        ensures { RegistersMoved self.entry.sheet.bytes.now (lags_in self.entry.lags.now) j result }
+    {
+        let wire = self.sheet.wire(j);
+        wire.registers + lag_at(self.lags, wire.to) - lag_at(self.lags, wire.from)
     }
-    20
-}
 
-// One limit of each block, less its lag.
-fn put_limits(s: &[u8], n: usize, lags: &[i16], top: bool, moved: &mut [u8])
-    requires { FormedSheet s.now × (n ≡ blocks_in s.now) × (n ≤ length lags.now) × (length s.now ≤ length moved.old) × Permitted (core_of s.now) (lags_in lags.now) }
-    ensures { moved.new ≡ puts (limits_from top) (limit_bits s.now (lags_in lags.now) top) n moved.old }
-{
-    let base = limits_from(top);
-    let mut b: usize = 0;
-    while b < n {
-        put_lag(
-            moved,
-            base + 8 * b,
-            limit_at(s, top, b) + 32768 - lag_at(lags, b),
-        );
-        b += 1;
+    fn put_registers(self, moved: &mut [u8])
+        requires { length self.sheet.bytes.now ≤ length moved.old }
+        ensures { moved.new ≡ puts (registers_from self.entry.sheet.n) (moved_registers self.entry.sheet.bytes.now (lags_in self.entry.lags.now)) self.entry.sheet.m moved.old }
+    {
+        let base = 20 + 8 * self.sheet.n;
+        for j in 0..self.sheet.m {
+            put_u16(moved, base + 8 * j, self.registers(j));
+        }
     }
-}
 
-// The registers of wire j once moved.
-fn moved_registers(s: &[u8], n: usize, lags: &[i16], j: usize) -> u32
-    requires { FormedSheet s.now × (n ≡ blocks_in s.now) × (n ≤ length lags.now) × (j < wires_in s.now) × Permitted (core_of s.now) (lags_in lags.now) }
-    ensures { RegistersMoved s.now (lags_in lags.now) j result }
-{
-    let WireRead::Wire(f, t, w) = read_wire(s, n, j) else {
-        return 0;
-    };
-    w + lag_at(lags, t) - lag_at(lags, f)
-}
-
-fn put_registers(s: &[u8], n: usize, m: usize, lags: &[i16], moved: &mut [u8])
-    requires { FormedSheet s.now × (n ≡ blocks_in s.now) × (m ≡ wires_in s.now) × (n ≤ length lags.now) × (length s.now ≤ length moved.old) × Permitted (core_of s.now) (lags_in lags.now) }
-    ensures { moved.new ≡ puts (registers_from n) (moved_registers s.now (lags_in lags.now)) m moved.old }
-{
-    let mut j: usize = 0;
-    while j < m {
-        put_u16(moved, 20 + 8 * n + 8 * j, moved_registers(s, n, lags, j));
-        j += 1;
+    // The moved sheet over the first bytes of a lent list.
+    pub fn write(self, moved: &mut [u8])
+        requires { length self.sheet.bytes.now ≤ length moved.old }
+        ensures { moved.new ≡ written self.entry.sheet.bytes.now (lags_in self.entry.lags.now) moved.old }
+    {
+        copy_sheet(self.sheet.bytes, moved);
+        self.put_limits(Limit::Lower, moved);
+        self.put_limits(Limit::Upper, moved);
+        self.put_registers(moved);
     }
-}
-
-// The moved sheet over the first bytes of a lent list.
-pub fn write_moved(s: &[u8], n: usize, m: usize, lags: &[i16], moved: &mut [u8])
-    requires { FormedSheet s.now × (n ≡ blocks_in s.now) × (m ≡ wires_in s.now) × (n ≤ length lags.now) × (length s.now ≤ length moved.old) × Permitted (core_of s.now) (lags_in lags.now) }
-    ensures { moved.new ≡ written s.now (lags_in lags.now) moved.old }
-{
-    copy_sheet(s, moved);
-    put_limits(s, n, lags, false, moved);
-    put_limits(s, n, lags, true, moved);
-    put_registers(s, n, m, lags, moved);
 }

@@ -6,6 +6,8 @@ use Rattle.sheet.specs.Core.{blocks_in, wires_in, delay_in, lower_in, upper_in, 
 use Rattle.sheet.specs.Rules.{First, refused}
 use Rattle.sheet.specs.Sheet.{BlockGood, WireGood, Framed, frame_rules}
 use Rattle.sheet.specs.declared.block.Block.{Block}
+use Rattle.sheet.specs.declared.block.Limit.{Limit}
+use Rattle.sheet.specs.declared.block.Limit.TheVariants as L
 use Rattle.sheet.specs.declared.wire.Wire.{Wire}
 use Rattle.sheet.specs.declared.entry.BadEntry.{BadEntry}
 use Rattle.sheet.specs.declared.refusal.Refusal.{Refusal}
@@ -41,6 +43,11 @@ pub record WireIs (s : List ℕ) (j from to registers : ℕ) : Type 0 where
   pub from_block : from < blocks_in s
   pub to_block : to < blocks_in s
   pub few : registers ≤ 2000
+
+-- one of a block's limits
+abbrev pub limit_of : Block → Limit → ℕ
+limit_of block L.Lower = block.lower
+limit_of block L.Upper = block.upper
 
 abbrev pub BlockGiven : List ℕ → ℕ → Result Block BadEntry → Type 0
 BlockGiven s b (Ok block) = BlockIs s b block.delay block.lower block.upper × BlockGood s b

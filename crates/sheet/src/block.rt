@@ -1,7 +1,7 @@
 // One block entry of a sheet.
-ghost use Rattle.std.specs.Prelude.{◌+◌, ◌*◌, ◌<◌, ◌≤◌, length};
+ghost use Rattle.std.specs.Prelude.{◌≡◌, ◌+◌, ◌*◌, ◌<◌, ◌≤◌, length};
 ghost use Rattle.sheet.specs.Rules.{Told};
-ghost use Rattle.sheet.specs.Reads.{BlockNumbers, BlockGiven};
+ghost use Rattle.sheet.specs.Reads.{BlockNumbers, BlockGiven, limit_of};
 
 use crate::bytes::{excess_at, u32_at};
 use crate::entry::BadEntry;
@@ -12,6 +12,24 @@ pub struct Block {
     pub delay: u32,
     pub lower: u32,
     pub upper: u32,
+}
+
+// Which of a block's two lag limits.
+#[derive(Clone, Copy, Debug, PartialEq, Eq)]
+pub enum Limit {
+    Lower,
+    Upper,
+}
+
+impl Block {
+    pub fn limit(self, which: Limit) -> u32
+        ensures { result ≡ limit_of self which }
+    {
+        match which {
+            Limit::Lower => self.lower,
+            Limit::Upper => self.upper,
+        }
+    }
 }
 
 // The host: delay 0 and both lags 0.

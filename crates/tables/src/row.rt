@@ -43,8 +43,9 @@ fn relax(costed: &Costed<'_>, u: usize, start: usize, j: usize, keys: &mut [usiz
     }
     let x = offer(k, costed.costs[j]);
     let old = keys[t];
-    keys[t] = x.min(old);
-    x < old
+    let better = x < old;
+    keys[t] = if better { x } else { old };
+    better
 }
 
 // One round over all wires: the number of improvements. `done` counts the rounds before it and bounds the row's numbers.

@@ -1,13 +1,14 @@
 -- How the question move ends.
 -- Assumes nothing.
-use Rattle.std.specs.Prelude.{◌≡◌, refl, List, [], ◌∷◌, ◌++◌, ℕ, ◌≤◌, ◌<◌, ℤ, length, pos}
-use Rattle.std.proofs.Common.{inl, inr, arith}
+use Rattle.std.specs.Prelude.{◌≡◌, refl, List, [], ◌∷◌, ◌++◌, ℕ, ◌≤◌, ℤ, length, pos}
+use Rattle.std.proofs.Common.{inl, arith}
 use Rattle.sheet.specs.Bytes.{Bytes}
 use Rattle.sheet.specs.Core.{core_of, blocks_in}
 use Rattle.sheet.specs.Rules.{Rule, First, None, answer, stage}
 use Rattle.sheet.specs.Sheet.{Framed, FormedSheet, frame_rules}
 use Rattle.sheet.specs.Laws.Rules.{ends, goes_on}
 use Rattle.sheet.specs.Laws.Sheet.{framed_none}
+use Rattle.std.proofs.Math.Decide.{dec_le}
 use Rattle.sheet.specs.Laws.Formed.{stable, dec_le_ℤ}
 use Rattle.sheet.specs.declared.answer.Answer.{Answer}
 use Rattle.paths.specs.Questions.{sound_rules, room_rules}
@@ -54,36 +55,30 @@ module _ (s : List ℕ) (lags : List ℤ) (l : List ℕ) where
   pub move_rest : (o : MoveOutcome) → Framed s → First (move_after_frame s lags l) o → MoveRight s lags l o
   move_rest o f h = goes_on keep (frame_rules s) (move_after_frame s lags l) o (framed_none s f) h
 
-  module _ (n : ℕ) (n_is : n ≡ blocks_in s) where
-    pub lags_short : length lags < n → First (move_after_frame s lags l) (move_outcome (answer 4 0 0) l)
-    lags_short h = ends keep room after_room (answer 4 0 0) (inl (omega arith, refl))
+  pub move_short : (a : Answer) → First room a → First (move_after_frame s lags l) (move_outcome a l)
+  move_short a f = ends keep room after_room a f
 
-    pub sheet_short : n ≤ length lags → length l < length s → First (move_after_frame s lags l) (move_outcome (answer 4 1 0) l)
-    sheet_short g h = ends keep room after_room (answer 4 1 0) (inr (λ k. omega arith, inl (h, refl)))
+  module _ (roomy : None room) where
+    pub move_unsound : (a : Answer) → First (sound_rules s) a → First (move_after_frame s lags l) (move_outcome a l)
+    move_unsound a f = goes_on keep room after_room (move_outcome a l) roomy (ends keep (sound_rules s) after_sound a f)
 
-    module _ (g : n ≤ length lags) (h : length s ≤ length l) where
-      roomy : None room
-      roomy = (λ k. omega arith, (λ k. omega arith, tt))
+    pub move_forbidden : (a : Answer) → None (sound_rules s) → First (lag_rules s (lags_in lags)) a → First (move_after_frame s lags l) (move_outcome a l)
+    move_forbidden a k f =
+        goes_on keep room after_room (move_outcome a l) roomy
+        (goes_on keep (sound_rules s) after_sound (move_outcome a l) k (ends keep (lag_rules s (lags_in lags)) last a f))
 
-      pub move_unsound : (a : Answer) → First (sound_rules s) a → First (move_after_frame s lags l) (move_outcome a l)
-      move_unsound a f = goes_on keep room after_room (move_outcome a l) roomy (ends keep (sound_rules s) after_sound a f)
-
-      pub move_forbidden : (a : Answer) → None (sound_rules s) → First (lag_rules s (lags_in lags)) a → First (move_after_frame s lags l) (move_outcome a l)
-      move_forbidden a k f =
-          goes_on keep room after_room (move_outcome a l) roomy
-          (goes_on keep (sound_rules s) after_sound (move_outcome a l) k (ends keep (lag_rules s (lags_in lags)) last a f))
-
-      pub move_done : (l' : List ℕ) → FormedSheet s → None (sound_rules s) → None (lag_rules s (lags_in lags)) → l' ≡ written s (lags_in lags) l → Bytes l'
-          → First (move_after_frame s lags l) (move_outcome (answer 0 0 0) l')
-      move_done l' f k q e b =
-          let p = none_permitted s (lags_in lags) q in
-          goes_on keep room after_room _ roomy
-          (goes_on keep (sound_rules s) after_sound _ k
-          (goes_on keep (lag_rules s (lags_in lags)) last _ q (inl (
-            tt,
-            record {
-              says_done = refl;
-              moved_sheet = rw e (written_moved s f (lags_in lags) p l h (rw e at b));
-              rest = rw e (rest_kept s f (lags_in lags) p l h);
-            },
-          ))))
+    pub move_done : (l' : List ℕ) → FormedSheet s → None (sound_rules s) → None (lag_rules s (lags_in lags)) → l' ≡ written s (lags_in lags) l → Bytes l'
+        → First (move_after_frame s lags l) (move_outcome (answer 0 0 0) l')
+    move_done l' f k q e b =
+        let p = none_permitted s (lags_in lags) q in
+        let h : length s ≤ length l = stable (dec_le (length s) (length l)) (λ k. roomy.1.0 (omega arith)) in
+        goes_on keep room after_room _ roomy
+        (goes_on keep (sound_rules s) after_sound _ k
+        (goes_on keep (lag_rules s (lags_in lags)) last _ q (inl (
+          tt,
+          record {
+            says_done = refl;
+            moved_sheet = rw e (written_moved s f (lags_in lags) p l h (rw e at b));
+            rest = rw e (rest_kept s f (lags_in lags) p l h);
+          },
+        ))))

@@ -1,7 +1,7 @@
 -- The tests on excess numbers are the tests of 01 on lags.
 -- Assumes nothing.
 use Rattle.std.specs.Prelude.{◌≡◌, List, ℕ, ◌+◌, ◌<◌, ◌≤◌, ℤ, ◌≤ℤ◌}
-use Rattle.std.proofs.Common.{ap, ◌∙◌, arith, inl, inr}
+use Rattle.std.proofs.Common.{ap, ◌∙◌, arith, inl}
 use Rattle.std.specs.Int.Signed.{mag}
 use Rattle.sheet.specs.Lag.{excess}
 use Rattle.sheet.specs.Core.{core_of, blocks_in, wires_in, lower_in, upper_in, from_in, to_in, registers_in}
@@ -9,9 +9,9 @@ use Rattle.sheet.specs.Sheet.{BlockGood}
 use Rattle.sheet.specs.Reads.{ExcessIs, BlockIs, WireIs}
 use Rattle.sheet.specs.Laws.Lag.{order, moved_low, moved_high}
 use Rattle.sheet.specs.Laws.Sheet.{lower_fits, upper_fits}
-use Rattle.sheet.specs.Rules.{First, None, FirstOf, answer}
-use Rattle.sheet.specs.Laws.Rules.{place_found, place_none}
-use Rattle.moves.specs.Move.{lag_rules}
+use Rattle.sheet.specs.Rules.{First, FirstOf, answer}
+use Rattle.sheet.specs.Laws.Rules.{place_found, search_stops}
+use Rattle.moves.specs.Move.{range_rules, fit_rules}
 use Rattle.moves.specs.Lags.{InRange, Fits}
 
 -- ---- one block: its lag's excess number e against its limits
@@ -62,23 +62,14 @@ module _ (s : List ℕ) (r : ℕ → ℤ) (j f t w a b : ℕ) (i : WireIs s j f 
     (moved_high (r (from_in s j)) (r (to_in s j)) x_fits y_fits (registers_in s j) 2000).1 (omega (arith, i.registers_is, x_is, y_is)),
   )
 
--- ---- refusals 8 and 9, from where the searches ended
-module _ (s : List ℕ) (r : ℕ → ℤ) (n b : ℕ) (e : n ≡ blocks_in s) (f : FirstOf (λ k. InRange (core_of s) r k → ⊥) n b) where
-  ranges_searched : FirstOf (λ k. InRange (core_of s) r k → ⊥) (blocks_in s) b
-  ranges_searched = rw e at f
+-- ---- refusals 8 and 9, from where a search ended: at the first lag or wire that breaks its rule, or past all
+module _ (s : List ℕ) (r : ℕ → ℤ) where
+  pub lag_out : (b : ℕ) → b < blocks_in s → ((k : ℕ) → k < b → (InRange (core_of s) r k → ⊥) → ⊥) → (InRange (core_of s) r b → ⊥) → First (range_rules s r) (answer 8 b 0)
+  lag_out b h before bad =
+      let f : FirstOf (λ k. InRange (core_of s) r k → ⊥) (blocks_in s) b = search_stops _ _ b h before bad in
+      inl (place_found (λ k. InRange (core_of s) r k → ⊥) (blocks_in s) (λ k. answer 8 k 0) b f h)
 
-  pub lag_out : b < n → First (lag_rules s r) (answer 8 b 0)
-  lag_out h = inl (place_found (λ k. InRange (core_of s) r k → ⊥) (blocks_in s) (λ k. answer 8 k 0) b ranges_searched (omega arith))
-
-  lags_in_lem : n ≤ b → (k : ℕ) × (k < blocks_in s) × (InRange (core_of s) r k → ⊥) → ⊥
-  lags_in_lem h = place_none (λ k. InRange (core_of s) r k → ⊥) (blocks_in s) (λ k. answer 8 k 0) b ranges_searched (omega arith)
-
-  module _ (m j : ℕ) (g : m ≡ wires_in s) (w : FirstOf (λ k. Fits (core_of s) r k → ⊥) m j) (h : n ≤ b) where
-    fits_searched : FirstOf (λ k. Fits (core_of s) r k → ⊥) (wires_in s) j
-    fits_searched = rw g at w
-
-    pub wire_out : j < m → First (lag_rules s r) (answer 9 j 0)
-    wire_out k = inr (lags_in_lem h, inl (place_found (λ i. Fits (core_of s) r i → ⊥) (wires_in s) (λ i. answer 9 i 0) j fits_searched (omega arith)))
-
-    pub lags_permitted : m ≤ j → None (lag_rules s r)
-    lags_permitted k = (lags_in_lem h, (place_none (λ i. Fits (core_of s) r i → ⊥) (wires_in s) (λ i. answer 9 i 0) j fits_searched (omega arith), tt))
+  pub wire_out : (j : ℕ) → j < wires_in s → ((k : ℕ) → k < j → (Fits (core_of s) r k → ⊥) → ⊥) → (Fits (core_of s) r j → ⊥) → First (fit_rules s r) (answer 9 j 0)
+  wire_out j h before bad =
+      let f : FirstOf (λ k. Fits (core_of s) r k → ⊥) (wires_in s) j = search_stops _ _ j h before bad in
+      inl (place_found (λ k. Fits (core_of s) r k → ⊥) (wires_in s) (λ k. answer 9 k 0) j f h)

@@ -1,20 +1,26 @@
 -- The loops that write the moved sheet: their turns, and the bounds on what they write.
 -- Assumes nothing.
-use Rattle.std.specs.Prelude.{◌≡◌, true, false, List, ℤ, length}
+use Rattle.std.specs.Prelude.{◌≡◌, List, ◌++◌, ℤ, length, get_or, drop}
 use Rattle.std.proofs.Math.Path.{refl}
-use Rattle.std.proofs.Common.{ap, ◌∙◌, arith}
+use Rattle.std.proofs.Common.{ap, sym, ◌∙◌, arith, ext_get_or, length-append, length-drop, get_or-append-add, get_or-drop}
+use Rattle.std.proofs.Math.Decide.{dec_lt}
+use Rattle.std.proofs.lemmas.List.{get_or_append_left}
 use Prim.Native.Nat.{ℕ, zero, suc, ◌+◌, ◌*◌, ◌-◌, ◌%◌, ◌<◌, ◌≤◌}
 use Rattle.std.proofs.Math.Numerals.{add-one}
 use Rattle.sheet.specs.Lag.{excess}
 use Rattle.sheet.specs.Bytes.{put16}
 use Rattle.sheet.specs.Core.{core_of, blocks_in, wires_in, lower_in, upper_in, from_in, to_in, registers_in}
 use Rattle.sheet.specs.Sheet.{FormedSheet}
-use Rattle.sheet.specs.Reads.{ExcessIs, BlockIs, WireIs}
+use Rattle.sheet.specs.Reads.{ExcessIs, BlockIs, WireIs, limit_of}
+use Rattle.sheet.specs.Laws.Filled.{length_filled, filled_at, filled_past}
+use Rattle.sheet.specs.declared.block.Block.{Block}
+use Rattle.sheet.specs.declared.block.Limit.{Limit}
 use Rattle.sheet.specs.Laws.Lag.{order, moved_low, moved_high}
 use Rattle.sheet.specs.Laws.Bytes.{length_put16}
 use Rattle.sheet.specs.Laws.Sheet.{block_numbers, lower_fits, upper_fits}
 use Rattle.moves.specs.Lags.{Permitted}
-use Rattle.moves.specs.Write.{puts, limit_bits, moved_registers, limits_from, registers_from, copied, written, LimitRead, RegistersMoved}
+use Rattle.sheet.specs.declared.block.Limit.TheVariants.{Lower, Upper}
+use Rattle.moves.specs.Write.{puts, limit_bits, moved_registers, limits_from, registers_from, copied, written, limit_in, RegistersMoved}
 
 module _ (base : ℕ) (val : ℕ → ℕ) where
   pub puts_none : (l : List ℕ) → puts base val 0 l ≡ l
@@ -36,20 +42,31 @@ module _ (base : ℕ) (val : ℕ → ℕ) where
 pub bits_is : (e a E A : ℕ) → e ≡ E → a ≡ A → (e + 32768 - a + 32768) % 65536 ≡ (E + 32768 - A + 32768) % 65536
 bits_is e a E A p q = rw (p, q)
 
+-- the bytes of the sheet, then what was there
+pub copied_is : (s l : List ℕ) → length s ≤ length l → s ++ drop (length s) l ≡ copied s l
+copied_is s l h =
+    ext_get_or 0 (s ++ drop (length s) l) (copied s l) (omega (arith, length-append s (drop (length s) l), length-drop (length s) l, length_filled (λ i. get_or s i 0) (length s) l))
+    (λ i k. at i (dec_lt i (length s)))
+  where
+    at : (i : ℕ) → Dec (i < length s) → get_or (s ++ drop (length s) l) i 0 ≡ get_or (copied s l) i 0
+    at i (yes q) = get_or_append_left s (drop (length s) l) 0 i q ∙ sym (filled_at (λ k. get_or s k 0) (length s) l i 0 q h)
+    at i (no q) =
+        let e : length s + (i - length s) ≡ i = omega arith in
+        rw e at (get_or-append-add s (drop (length s) l) (i - length s) 0)
+        ∙ rw e at (get_or-drop (length s) l (i - length s) 0)
+        ∙ sym (filled_past (λ k. get_or s k 0) (length s) l i 0 (omega arith))
+
 -- the four steps together
 pub written_made : (s : List ℕ) (r : ℕ → ℤ) (l : List ℕ) (n m : ℕ) (l₁ l₂ l₃ l₄ : List ℕ) → n ≡ blocks_in s → m ≡ wires_in s → l₁ ≡ copied s l
-    → l₂ ≡ puts (limits_from false) (limit_bits s r false) n l₁ → l₃ ≡ puts (limits_from true) (limit_bits s r true) n l₂
+    → l₂ ≡ puts (limits_from Lower) (limit_bits s r Lower) n l₁ → l₃ ≡ puts (limits_from Upper) (limit_bits s r Upper) n l₂
     → l₄ ≡ puts (registers_from n) (moved_registers s r) m l₃ → l₄ ≡ written s r l
 written_made s r l n m l₁ l₂ l₃ l₄ p q a b c d = d ∙ rw (c, b, a, p, q)
 
 module _ (s : List ℕ) (f : FormedSheet s) where
   -- ---- a limit as it is read
-  module _ (b d lo up : ℕ) (i : BlockIs s b d lo up) where
-    pub upper_read : LimitRead s true b up
-    upper_read = record { is = i.upper_is; low = omega (arith, i.numbers.lowest, i.numbers.ordered); high = i.numbers.highest }
-
-    pub lower_read : LimitRead s false b lo
-    lower_read = record { is = i.lower_is; low = i.numbers.lowest; high = omega (arith, i.numbers.ordered, i.numbers.highest) }
+  pub limit_is : (b : ℕ) (block : Block) → BlockIs s b block.delay block.lower block.upper → (which : Limit) (x : ℕ) → x ≡ limit_of block which → x ≡ excess (limit_in s which b)
+  limit_is b block i Lower x e = e ∙ i.lower_is
+  limit_is b block i Upper x e = e ∙ i.upper_is
 
   module _ (r : ℕ → ℤ) (p : Permitted (core_of s) r) where
     -- ---- a permitted lag is small

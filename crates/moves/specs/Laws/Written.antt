@@ -1,6 +1,6 @@
 -- What was written is the moved sheet, and nothing past it was touched.
 -- Assumes nothing.
-use Rattle.std.specs.Prelude.{◌≡◌, true, false, ◌⊎◌, List, ℤ, pos, negsuc, ◌-ℤ◌, length, get_or, take}
+use Rattle.std.specs.Prelude.{◌≡◌, ◌⊎◌, List, ℤ, pos, negsuc, ◌-ℤ◌, length, get_or, take}
 use Rattle.std.proofs.Math.Path.{refl}
 use Rattle.std.proofs.Common.{sym, ap, ◌∙◌, inl, inr, arith, length-take-le, get_or-take, to_z}
 use Prim.Native.Nat.{ℕ, zero, suc, ◌+◌, ◌*◌, ◌-◌, ◌%◌, ◌<◌, ◌≤◌}
@@ -20,6 +20,7 @@ use Rattle.sheet.specs.Laws.Sheet.{limits_fit, lower_fits, upper_fits, block_num
 use Rattle.paths.specs.Questions.{KeptFrom}
 use Rattle.moves.specs.Lags.{InRange, Permitted, MovedTo}
 use Rattle.moves.specs.Move.{MovedSheet, Copied}
+use Rattle.sheet.specs.declared.block.Limit.TheVariants.{Lower, Upper}
 use Rattle.moves.specs.Write.{puts, limit_bits, moved_registers, registers_from, copied, written}
 use Rattle.moves.specs.Laws.Writing.{length_puts}
 
@@ -69,12 +70,12 @@ module _ (s : List ℕ) (f : FormedSheet s) (r : ℕ → ℤ) (b : ℕ) (h : b <
     (order (r b) (upper_in s b) lag_fits (upper_fits _ _ _ _ (f.block b h))).0 p.1,
   )
 
-  pub lower_less : to_z w16 (limit_bits s r false b) ≡ lower_in s b -ℤ r b
+  pub lower_less : to_z w16 (limit_bits s r Lower b) ≡ lower_in s b -ℤ r b
   lower_less =
       let q = block_numbers _ _ _ _ (f.block b h) in
       limit_less (lower_in s b) (r b) (lower_fits _ _ _ _ (f.block b h)) lag_fits (omega (arith, q, lag_between)) (omega (arith, q, lag_between))
 
-  pub upper_less : to_z w16 (limit_bits s r true b) ≡ upper_in s b -ℤ r b
+  pub upper_less : to_z w16 (limit_bits s r Upper b) ≡ upper_in s b -ℤ r b
   upper_less =
       let q = block_numbers _ _ _ _ (f.block b h) in
       limit_less (upper_in s b) (r b) (upper_fits _ _ _ _ (f.block b h)) lag_fits (omega (arith, q, lag_between)) (omega (arith, q, lag_between))
@@ -88,10 +89,10 @@ module _ (s : List ℕ) (f : FormedSheet s) (r : ℕ → ℤ) (p : Permitted (co
   m = wires_in s
 
   abbrev lows : List ℕ
-  lows = puts 20 (limit_bits s r false) n (copied s l)
+  lows = puts 20 (limit_bits s r Lower) n (copied s l)
 
   abbrev ups : List ℕ
-  ups = puts 22 (limit_bits s r true) n lows
+  ups = puts 22 (limit_bits s r Upper) n lows
 
   whole : length s ≡ 16 + 8 * n + 8 * m
   whole = f.framed.offsets.whole
@@ -100,10 +101,10 @@ module _ (s : List ℕ) (f : FormedSheet s) (r : ℕ → ℤ) (p : Permitted (co
   length_copied = length_filled (λ i. get_or s i 0) (length s) l
 
   length_lows : length lows ≡ length l
-  length_lows = length_puts 20 (limit_bits s r false) n (copied s l) ∙ length_copied
+  length_lows = length_puts 20 (limit_bits s r Lower) n (copied s l) ∙ length_copied
 
   length_ups : length ups ≡ length l
-  length_ups = length_puts 22 (limit_bits s r true) n lows ∙ length_lows
+  length_ups = length_puts 22 (limit_bits s r Upper) n lows ∙ length_lows
 
   pub length_written : length (written s r l) ≡ length l
   length_written = length_puts (registers_from n) (moved_registers s r) m ups ∙ length_ups
@@ -112,8 +113,8 @@ module _ (s : List ℕ) (f : FormedSheet s) (r : ℕ → ℤ) (p : Permitted (co
   other : (i : ℕ) → ((k : ℕ) → k < n → (i < 20 + 8 * k) ⊎ (23 + 8 * k < i)) → ((k : ℕ) → k < m → (i < 20 + 8 * n + 8 * k) ⊎ (21 + 8 * n + 8 * k < i)) → get_or (written s r l) i 0 ≡ get_or (copied s l) i 0
   other i a b =
       puts_other (registers_from n) (moved_registers s r) m ups i (λ k h. elim (b k h) [ inl q ↦ (λ e. omega arith, λ e. omega arith) | inr q ↦ (λ e. omega arith, λ e. omega arith) ])
-      ∙ puts_other 22 (limit_bits s r true) n lows i (λ k h. elim (a k h) [ inl q ↦ (λ e. omega arith, λ e. omega arith) | inr q ↦ (λ e. omega arith, λ e. omega arith) ])
-      ∙ puts_other 20 (limit_bits s r false) n (copied s l) i (λ k h. elim (a k h) [ inl q ↦ (λ e. omega arith, λ e. omega arith) | inr q ↦ (λ e. omega arith, λ e. omega arith) ])
+      ∙ puts_other 22 (limit_bits s r Upper) n lows i (λ k h. elim (a k h) [ inl q ↦ (λ e. omega arith, λ e. omega arith) | inr q ↦ (λ e. omega arith, λ e. omega arith) ])
+      ∙ puts_other 20 (limit_bits s r Lower) n (copied s l) i (λ k h. elim (a k h) [ inl q ↦ (λ e. omega arith, λ e. omega arith) | inr q ↦ (λ e. omega arith, λ e. omega arith) ])
 
   copied_at : (i : ℕ) → i < length s → get_or (copied s l) i 0 ≡ get_or s i 0
   copied_at i h = filled_at (λ k. get_or s k 0) (length s) l i 0 h room
@@ -155,19 +156,19 @@ module _ (s : List ℕ) (f : FormedSheet s) (r : ℕ → ℤ) (p : Permitted (co
   u16_t : (at : ℕ) → at + 1 < length s → u16_at t at ≡ u16_at (written s r l) at
   u16_t at h = omega (arith, at_t at (omega arith), at_t (at + 1) h)
 
-  lower_written : (b : ℕ) → b < n → u16_at t (block_at b + 4) ≡ limit_bits s r false b
+  lower_written : (b : ℕ) → b < n → u16_at t (block_at b + 4) ≡ limit_bits s r Lower b
   lower_written b h =
       let e : block_at b + 4 ≡ 20 + 8 * b = omega arith in
       let a1 = puts_other (registers_from n) (moved_registers s r) m ups (20 + 8 * b) (λ k q. (λ z. omega arith, λ z. omega arith)) in
       let a2 = puts_other (registers_from n) (moved_registers s r) m ups (20 + 8 * b + 1) (λ k q. (λ z. omega arith, λ z. omega arith)) in
-      let b1 = puts_other 22 (limit_bits s r true) n lows (20 + 8 * b) (λ k q. (λ z. omega arith, λ z. omega arith)) in
-      let b2 = puts_other 22 (limit_bits s r true) n lows (20 + 8 * b + 1) (λ k q. (λ z. omega arith, λ z. omega arith)) in
+      let b1 = puts_other 22 (limit_bits s r Upper) n lows (20 + 8 * b) (λ k q. (λ z. omega arith, λ z. omega arith)) in
+      let b2 = puts_other 22 (limit_bits s r Upper) n lows (20 + 8 * b + 1) (λ k q. (λ z. omega arith, λ z. omega arith)) in
       u16_t (block_at b + 4) (omega (arith, whole))
       ∙ ap (u16_at (written s r l)) e
       ∙ omega (arith, a1, a2, b1, b2)
-      ∙ puts_read 20 (limit_bits s r false) n b (copied s l) h (omega (arith, whole, length_copied))
+      ∙ puts_read 20 (limit_bits s r Lower) n b (copied s l) h (omega (arith, whole, length_copied))
 
-  upper_written : (b : ℕ) → b < n → u16_at t (block_at b + 6) ≡ limit_bits s r true b
+  upper_written : (b : ℕ) → b < n → u16_at t (block_at b + 6) ≡ limit_bits s r Upper b
   upper_written b h =
       let e : block_at b + 6 ≡ 22 + 8 * b = omega arith in
       let a1 = puts_other (registers_from n) (moved_registers s r) m ups (22 + 8 * b) (λ k q. (λ z. omega arith, λ z. omega arith)) in
@@ -175,7 +176,7 @@ module _ (s : List ℕ) (f : FormedSheet s) (r : ℕ → ℤ) (p : Permitted (co
       u16_t (block_at b + 6) (omega (arith, whole))
       ∙ ap (u16_at (written s r l)) e
       ∙ omega (arith, a1, a2)
-      ∙ puts_read 22 (limit_bits s r true) n b lows h (omega (arith, whole, length_lows))
+      ∙ puts_read 22 (limit_bits s r Upper) n b lows h (omega (arith, whole, length_lows))
 
   registers_written : (j : ℕ) → j < m → u16_at t (wire_at n j + 4) ≡ moved_registers s r j
   registers_written j h =

@@ -1,14 +1,20 @@
--- The first lag out of its range is refusal 8, else the first wire out of its limits 9, else none applies.
-use native.Mathlib.Omega.{arith}
+-- Where the wires refuse, no lag does; what passes both is permitted.
+use Rattle.std.proofs.lemmas.Result.{err_from_is_err_and}
+use Rattle.sheet.specs.Laws.Rules.{first_right, none_both}
 use Rattle.moves.specs.Lags.{lags_in}
-use Rattle.moves.specs.Laws.Reading.{lag_out, wire_out, lags_permitted}
+use Rattle.moves.specs.Move.{range_rules, fit_rules}
+use Rattle.moves.specs.Laws.Questions.{none_permitted}
 use Rattle.moves.proofs.lags.check_lags.Goals as goal
 
-pub returns-then-b-n : goal.returns-then-b-n
-returns-then-b-n c = rw c.refusal.ensures (lag_out c.args.s.now (lags_in c.args.lags.now) _ _ c.requires.1 c.first_out_of_range-b.ensures (omega arith))
+pub returns-in_err-check_wires-clause-staged : goal.returns-in_err-check_wires-clause-staged
+returns-in_err-check_wires-clause-staged c =
+    let p = err_from_is_err_and c.from_residual-in_err-check_wires.result c.from_residual-in_err-check_wires.ensures.1 in
+    let s = c.args.asked.sheet.bytes.now in
+    let r = lags_in c.args.asked.lags.now in
+    rw (p.1, p.2) (first_right (range_rules s r) (fit_rules s r) _ c.in_ok-check_ranges.ensures c.in_err-check_wires.ensures)
 
-pub returns-then-j-m : goal.returns-then-j-m
-returns-then-j-m c = rw c.refusal-then-j-m.ensures (wire_out c.args.s.now (lags_in c.args.lags.now) _ _ c.requires.1 c.first_out_of_range-b.ensures _ _ c.requires.2 c.first_misfit-j.ensures (omega arith) (omega arith))
-
-pub returns : goal.returns
-returns c = lags_permitted c.args.s.now (lags_in c.args.lags.now) _ _ c.requires.1 c.first_out_of_range-b.ensures _ _ c.requires.2 c.first_misfit-j.ensures (omega arith) (omega arith)
+pub invariant_of-result-clause-permitted : goal.invariant_of-result-clause-permitted
+invariant_of-result-clause-permitted c =
+    let s = c.args.asked.sheet.bytes.now in
+    let r = lags_in c.args.asked.lags.now in
+    none_permitted s r (none_both (range_rules s r) (fit_rules s r) c.in_ok-check_ranges.ensures c.in_ok-check_wires.ensures)
