@@ -1,18 +1,17 @@
 -- What each reader of a loop's words gives, case by case.
-use Rattle.std.specs.Prelude.{◌≡◌, ◌⊎◌, List, ◌∷◌, ◌++◌, ℕ, ◌+◌, ◌*◌, ◌<◌, ◌≤◌, length, take, drop}
+use Rattle.std.specs.Prelude.{◌≡◌, List, ◌∷◌, ◌++◌, ℕ, ◌+◌, ◌*◌, ◌<◌, ◌≤◌, length, take, drop, Option, Some, None}
 use Rattle.sheet.specs.Core.{core_of, shape_of, blocks_in, wires_in, delay_in, from_in, to_in, registers_in}
 use Rattle.sheet.specs.Laws.Integer.{up, down}
 use Rattle.paths.specs.Path.{Joins, registers_on, delay_on, end_of}
 use Rattle.loops.specs.Link.{Link, wire, path, upper, lower, ceiling, words_of, all_words, link_a, link_b, link_k, Good, Chain, sum_k}
+use Rattle.sheet.specs.declared.block.Limit.{Limit}
+use Rattle.sheet.specs.declared.block.Limit.TheVariants.{Lower, Upper}
+use Rattle.loops.specs.declared.link.Bound.{Bound}
+use Rattle.loops.specs.declared.link.Bound.TheVariants.{Floor, Ceiling}
 use Rattle.loops.specs.declared.link.Link as D
 use Rattle.loops.specs.declared.link.Link.TheVariants as L
-use Rattle.loops.specs.declared.link.Head.{Head}
-use Rattle.loops.specs.declared.link.Head.TheVariants as H
 use Rattle.loops.specs.declared.link.Read.{Read}
-use Rattle.loops.specs.declared.link.LinkRead.{LinkRead}
-use Rattle.loops.specs.declared.link.LinkRead.TheVariants as R
-use Rattle.loops.specs.declared.path.Step.{Step}
-use Rattle.loops.specs.declared.path.Step.TheVariants as S
+use Rattle.loops.specs.declared.path.Leg.{Leg}
 
 -- ---- words
 -- the words from `at` up to `next` are those of the link l
@@ -23,16 +22,18 @@ pub record Spelt (words : List ℕ) (at next : ℕ) (l : Link) : Type 0 where
 
 -- a link as code holds it, in the words that spell it
 abbrev pub HeadIs : List ℕ → ℕ → D.Link → Type 0
-HeadIs words at (L.Wire kind j) = ((kind ≡ 1) × Spelt words at (at + 2) (wire j)) ⊎ ((kind ≡ 5) × Spelt words at (at + 2) (ceiling j))
+HeadIs words at (L.Wire Floor j) = Spelt words at (at + 2) (wire j)
+HeadIs words at (L.Wire Ceiling j) = Spelt words at (at + 2) (ceiling j)
 HeadIs words at (L.Path u count) = Spelt words at (at + 3 + count) (path u (take count (drop (at + 3) words)))
-HeadIs words at (L.Block kind b) = ((kind ≡ 3) × Spelt words at (at + 2) (upper b)) ⊎ ((kind ≡ 4) × Spelt words at (at + 2) (lower b))
+HeadIs words at (L.Block Upper b) = Spelt words at (at + 2) (upper b)
+HeadIs words at (L.Block Lower b) = Spelt words at (at + 2) (lower b)
 
 abbrev pub PathHead : List ℕ → ℕ → ℕ → ℕ → Type 0
 PathHead words at u count = HeadIs words at (L.Path u count)
 
-abbrev pub HeadGiven : List ℕ → ℕ → Head → Type 0
-HeadGiven words at (H.Known l) = HeadIs words at l
-HeadGiven words at H.Unknown = (l : Link) (rest : List ℕ) → drop at words ≡ words_of l ++ rest → ⊥
+abbrev pub HeadGiven : List ℕ → ℕ → Option D.Link → Type 0
+HeadGiven words at (Some l) = HeadIs words at l
+HeadGiven words at None = (l : Link) (rest : List ℕ) → drop at words ≡ words_of l ++ rest → ⊥
 
 -- ---- links
 -- a good link of the sheet s at the period p, with its ends, k + 32,768 and where the next link begins
@@ -46,19 +47,19 @@ pub record LinkIs (s : List ℕ) (p : ℕ) (words : List ℕ) (at : ℕ) (r : Re
   pub k_is : r.k + down (link_k (core_of s) link) ≡ up (link_k (core_of s) link) + 32768
   pub small : r.k + 18384 * at ≤ 18384 * r.next
 
-abbrev pub LinkGiven : List ℕ → ℕ → List ℕ → ℕ → LinkRead → Type 0
-LinkGiven s p words at (R.Good r) = LinkIs s p words at r
-LinkGiven s p words at R.Refused = (l : Link) (rest : List ℕ) → drop at words ≡ words_of l ++ rest → Good (core_of s) p l → ⊥
+abbrev pub LinkGiven : List ℕ → ℕ → List ℕ → ℕ → Option Read → Type 0
+LinkGiven s p words at (Some r) = LinkIs s p words at r
+LinkGiven s p words at None = (l : Link) (rest : List ℕ) → drop at words ≡ words_of l ++ rest → Good (core_of s) p l → ⊥
 
 -- what a head comes to, whatever the words that spell it
-abbrev pub Settled : List ℕ → ℕ → D.Link → LinkRead → Type 0
+abbrev pub Settled : List ℕ → ℕ → D.Link → Option Read → Type 0
 Settled s at l r = (p : ℕ) (words : List ℕ) → HeadIs words at l → LinkGiven s p words at r
 
-abbrev pub WireSettled : List ℕ → ℕ → ℕ → ℕ → LinkRead → Type 0
-WireSettled s at kind j r = Settled s at (L.Wire kind j) r
+abbrev pub WireSettled : List ℕ → ℕ → Bound → ℕ → Option Read → Type 0
+WireSettled s at bound j r = Settled s at (L.Wire bound j) r
 
-abbrev pub BlockSettled : List ℕ → ℕ → ℕ → ℕ → LinkRead → Type 0
-BlockSettled s at kind b r = Settled s at (L.Block kind b) r
+abbrev pub BlockSettled : List ℕ → ℕ → Limit → ℕ → Option Read → Type 0
+BlockSettled s at which b r = Settled s at (L.Block which b) r
 
 -- ---- the wires of a path
 -- wire j leads on from block `here` to block t, with its registers and that block's delay
@@ -72,9 +73,9 @@ pub record StepIs (s : List ℕ) (here j t w d : ℕ) : Type 0 where
   pub few : w ≤ 2000
   pub short : d ≤ 10000
 
-abbrev pub StepGiven : List ℕ → ℕ → ℕ → Step → Type 0
-StepGiven s here j (S.To t w d) = StepIs s here j t w d
-StepGiven s here j S.Refused = j < wires_in s → from_in s j ≡ here → ⊥
+abbrev pub StepGiven : List ℕ → ℕ → ℕ → Option Leg → Type 0
+StepGiven s here j (Some leg) = StepIs s here j leg.to leg.registers leg.delay
+StepGiven s here j None = j < wires_in s → from_in s j ≡ here → ⊥
 
 -- the first i of the wires ws lead from block u to block `here`
 pub record Followed (s ws : List ℕ) (u i here registers delay : ℕ) : Type 0 where
@@ -85,9 +86,9 @@ pub record Followed (s ws : List ℕ) (u i here registers delay : ℕ) : Type 0 
   pub short : delay ≤ 10000 * i + 10000
 
 -- all of the first `count` wires do, or they do not join
-abbrev pub FollowGiven : List ℕ → List ℕ → ℕ → ℕ → Step → Type 0
-FollowGiven s ws u count (S.To end registers delay) = Followed s ws u count end registers delay
-FollowGiven s ws u count S.Refused = Joins (shape_of s) u (take count ws) (end_of (shape_of s) u (take count ws)) → ⊥
+abbrev pub FollowGiven : List ℕ → List ℕ → ℕ → ℕ → Option Leg → Type 0
+FollowGiven s ws u count (Some leg) = Followed s ws u count leg.to leg.registers leg.delay
+FollowGiven s ws u count None = Joins (shape_of s) u (take count ws) (end_of (shape_of s) u (take count ws)) → ⊥
 
 -- ---- the chain
 -- the words before `at` are those of links that lead from block `first` to block `last`; their sum is held as sum + 32,768 for each

@@ -1,87 +1,80 @@
 // Loops that prove a refusal: links, the loop check, what a loop rules out; the question check a loop.
 #![tactic(auto)]
 
-ghost use Rattle.std.specs.Prelude.{◌≡◌, ◌≤◌, length};
-ghost use Rattle.sheet.specs.Core.{core_of, blocks_in, wires_in};
-ghost use Rattle.sheet.specs.Rules.{First, Told};
-ghost use Rattle.sheet.specs.Sheet.{Framed, FormedSheet};
+ghost use Rattle.sheet.specs.Core.{core_of};
+ghost use Rattle.sheet.specs.Rules.{Told, said};
 ghost use Rattle.loops.specs.Link.{ValidLoop};
 ghost use Rattle.loops.specs.Reads.{LinkIs};
-ghost use Rattle.loops.specs.Loop.{LoopRight, loop_after_frame};
+ghost use Rattle.loops.specs.Loop.{LoopRight};
 
-use crate::link::{LinkRead, Read};
-use crate::read::read_link;
-use sheet::answer::{Answer, Stage, done, refusal};
-use sheet::frame::{Frame, read_frame};
+use crate::link::Read;
+use crate::read::Offer;
+use paths::sound::check_sound;
+use sheet::answer::Answer;
+use sheet::frame::read_frame;
+use sheet::opened::Formed;
+use sheet::refusal::Refusal;
 
 mod link; // a link as the words hold it
-mod path; // a link of kind 2
+mod path; // the wires of a link of kind 2
 mod read; // one link
 
 // Whether the links after the first go on from it, come back to its a, and add up to less than 0 with it.
-fn closes(s: &[u8], n: usize, m: usize, c: u32, words: &[u16], first: Read) -> bool
-    requires { FormedSheet s.now × (n ≡ blocks_in s.now) × (m ≡ wires_in s.now) × (length words.now ≤ 4224) × LinkIs s.now c words.now 0 first }
-    ensures { Told (ValidLoop (core_of s.now) c words.now) result }
+fn closes(offer: Offer<'_>, first: Read) -> bool
+    requires { LinkIs offer.sheet.bytes.now offer.period offer.words.now 0 first }
+    ensures { Told (ValidLoop (core_of offer.entry.sheet.bytes.now) offer.entry.period offer.entry.words.now) result }
 {
     let mut last = first.b;
     let mut sum = first.k;
-    let mut links = 1u32;
+    let mut links = 1;
     let mut at = first.next;
-    while at < words.len() {
-        let LinkRead::Good(l) = read_link(s, n, m, c, words, at) else {
+    while at < offer.words.len() {
+        let Some(link) = offer.link_at(at) else {
             return false;
         };
-        if l.a != last {
+        if link.a != last {
             return false;
         }
-        last = l.b;
-        sum += l.k;
+        last = link.b;
+        sum += link.k;
         links += 1;
-        at = l.next;
+        at = link.next;
     }
-    if last != first.a {
-        return false;
-    }
-    if sum >= 32768 * links {
-        return false;
-    }
-    true
+    last == first.a && sum < 32768 * links
 }
 
 // Whether the words are a valid loop of a formed sheet.
-fn valid(s: &[u8], n: usize, m: usize, c: u32, words: &[u16]) -> bool
-    requires { FormedSheet s.now × (n ≡ blocks_in s.now) × (m ≡ wires_in s.now) }
-    ensures { Told (ValidLoop (core_of s.now) c words.now) result }
+fn valid(sheet: Formed<'_>, period: u32, words: &[u16]) -> bool
+    ensures { Told (ValidLoop (core_of sheet.entry.bytes.now) period words.now) result }
 {
     if words.len() > 4224 {
         return false;
     }
-    let LinkRead::Good(first) = read_link(s, n, m, c, words, 0) else {
-        return false;
+    let offer = Offer {
+        sheet,
+        period,
+        words,
     };
-    closes(s, n, m, c, words, first)
+    match offer.link_at(0) {
+        Some(first) => closes(offer, first),
+        None => false,
+    }
 }
 
-// Check a loop against a sheet whose header is right.
-fn loop_framed(s: &[u8], n: usize, m: usize, c: u32, words: &[u16]) -> Answer
-    requires { Framed s.now × (n ≡ blocks_in s.now) × (m ≡ wires_in s.now) }
-    ensures { First (loop_after_frame s.now c words.now) result }
+fn checked(sheet: &[u8], c: u32, words: &[u16]) -> Result<u32, Refusal>
+    ensures { LoopRight sheet.now c words.now (said result) }
 {
-    if let Stage::Refuse(a) = paths::sound::check_sound(s, n, m) {
-        return a;
+    let sound = check_sound(read_frame(sheet)?)?;
+    if valid(sound.formed(), c, words) {
+        Ok(0)
+    } else {
+        Err(Refusal::NoProof)
     }
-    if valid(s, n, m, c, words) {
-        return done(0);
-    }
-    refusal(12, 0)
 }
 
 // Check a loop: whether the words prove that no permitted lags of the sheet meet c.
 pub fn check_loop(sheet: &[u8], c: u32, words: &[u16]) -> Answer
     ensures { LoopRight sheet.now c words.now result }
 {
-    match read_frame(sheet) {
-        Frame::Refused(a) => a,
-        Frame::Counts(n, m) => loop_framed(sheet, n, m, c, words),
-    }
+    Answer::of(checked(sheet, c, words))
 }

@@ -1,17 +1,26 @@
 // A link of a loop as the words hold it: its kind, and what the kind asks for.
-ghost use Rattle.std.specs.Prelude.{◌≡◌, ◌+◌, ◌≤◌, ◌<◌, length, get_or};
+ghost use Rattle.std.specs.Prelude.{◌≡◌, ◌+◌, ◌≤◌, length, get_or};
 ghost use Rattle.loops.specs.Reads.{HeadGiven};
 
-// Kind and wire (1 and 5); start block and number of wires (2); kind and block (3 and 4).
-#[derive(Clone, Copy)]
+use sheet::block::Limit;
+
+// Which rule of a wire: it keeps 0 registers or more, or 2,000 or fewer.
+#[derive(Clone, Copy, Debug, PartialEq, Eq)]
+pub enum Bound {
+    Floor,
+    Ceiling,
+}
+
+// A wire by its number (kinds 1 and 5); a path by its start block and the number of its wires (2); a block by its number (3 and 4).
+#[derive(Clone, Copy, Debug, PartialEq, Eq)]
 pub enum Link {
-    Wire(usize, usize),
+    Wire(Bound, usize),
     Path(usize, usize),
-    Block(usize, usize),
+    Block(Limit, usize),
 }
 
 // A good link: its rule is lag(a) - lag(b) <= k, held as k + 32,768; the next link's words begin at `next`.
-#[derive(Clone, Copy)]
+#[derive(Clone, Copy, Debug, PartialEq, Eq)]
 pub struct Read {
     pub link: Link,
     pub a: usize,
@@ -20,56 +29,36 @@ pub struct Read {
     pub next: usize,
 }
 
-// A good link, or none.
-#[derive(Clone, Copy)]
-pub enum LinkRead {
-    Good(Read),
-    Refused,
-}
-
-// A link whose words are all there, or none.
-#[derive(Clone, Copy)]
-pub enum Head {
-    Known(Link),
-    Unknown,
-}
-
-pub fn word_at(words: &[u16], i: usize) -> usize
-    requires { i < length words.now }
-    ensures { (result ≡ get_or words.now i 0) × (result < 65536) }
-{
-    words[i] as usize
-}
-
 // A path's head: the number of its wires may be any word.
-fn path_head(words: &[u16], at: usize, start: usize) -> Head
+fn path_head(words: &[u16], at: usize, start: usize) -> Option<Link>
     requires { (at + 2 ≤ length words.now) × (length words.now ≤ 4224) × (get_or words.now at 0 ≡ 2) × (get_or words.now (at + 1) 0 ≡ start) }
     ensures { HeadGiven words.now at result }
 {
     if words.len() < at + 3 {
-        return Head::Unknown;
+        return None;
     }
-    let count = word_at(words, at + 2);
+    let count = words[at + 2] as usize;
     if words.len() < at + 3 + count {
-        return Head::Unknown;
+        return None;
     }
-    Head::Known(Link::Path(start, count))
+    Some(Link::Path(start, count))
 }
 
 // The link whose words begin at `at`, before its blocks and wires are looked at.
-pub fn head_at(words: &[u16], at: usize) -> Head
+pub fn head_at(words: &[u16], at: usize) -> Option<Link>
     requires { (at ≤ length words.now) × (length words.now ≤ 4224) }
     ensures { HeadGiven words.now at result }
 {
     if words.len() < at + 2 {
-        return Head::Unknown;
+        return None;
     }
-    let kind = word_at(words, at);
-    let x = word_at(words, at + 1);
-    match kind {
-        1 | 5 => Head::Known(Link::Wire(kind, x)),
+    let x = words[at + 1] as usize;
+    match words[at] {
+        1 => Some(Link::Wire(Bound::Floor, x)),
         2 => path_head(words, at, x),
-        3 | 4 => Head::Known(Link::Block(kind, x)),
-        _ => Head::Unknown,
+        3 => Some(Link::Block(Limit::Upper, x)),
+        4 => Some(Link::Block(Limit::Lower, x)),
+        5 => Some(Link::Wire(Bound::Ceiling, x)),
+        _ => None,
     }
 }

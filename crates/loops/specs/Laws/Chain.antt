@@ -1,14 +1,20 @@
 -- A loop read link by link: what the words so far say, and why a refused list of words is no valid loop.
 -- Assumes nothing.
 use Rattle.std.specs.Prelude.{◌≡◌, refl, List, [], ◌∷◌, ◌++◌, ℕ, ◌+◌, ◌*◌, ◌<◌, ◌≤◌, length, drop, ℤ, pos, negsuc, ◌<ℤ◌}
-use Rattle.std.proofs.Common.{sym, ap, ◌∙◌, subst, append_assoc, append-nil, arith, ltb→lt, length-drop, drop_of_length-le}
+use Rattle.std.proofs.Math.Decide.{dec_lt}
+use Rattle.sheet.specs.Rules.{Told}
+use Rattle.std.proofs.Common.{lt-ltb, le-ltb, ltb, sym, ap, ◌∙◌, subst, append_assoc, append-nil, arith, ltb→lt, length-drop, drop_of_length-le}
 use Rattle.sheet.specs.Core.{Core, core_of}
 use Rattle.sheet.specs.Laws.Integer.{up, down, plus}
 use Rattle.loops.specs.Link.{Link, words_of, all_words, link_a, link_b, link_k, Chain, sum_k, ValidLoop}
 use Rattle.loops.specs.Reads.{LinkIs, LinkGiven, Chained}
 use Rattle.loops.specs.Laws.Words.{same_link, spelt_long, split_words, words_append}
 use Rattle.loops.specs.declared.link.Read.{Read}
-use Rattle.loops.specs.declared.link.LinkRead.TheVariants as R
+use Rattle.std.specs.Prelude.{None}
+
+-- ---- a test that compares two numbers
+pub told_lower : (P : Type 0) (a b : ℕ) → (a < b → P) → (b ≤ a → P → ⊥) → Told P (ltb a b)
+told_lower P a b y n = elim (dec_lt a b) [ yes h ↦ rw (lt-ltb a b h) (y h) | no h ↦ rw (le-ltb a b (omega arith)) (n (omega arith)) ]
 
 -- ---- below 0
 pub negative_parts : (z : ℤ) → z <ℤ pos 0 → up z < down z
@@ -91,11 +97,11 @@ module _ (s : List ℕ) (p : ℕ) (words : List ℕ) where
         same_start l ls m ms ns e = let q : l ≡ m = cc in ap (link_a (core_of s)) q
 
     -- no good link begins here
-    stuck : (more : List Link) → at < length words → drop at words ≡ all_words more → Chain (core_of s) p last more first → LinkGiven s p words at R.Refused → ⊥
+    stuck : (more : List Link) → at < length words → drop at words ≡ all_words more → Chain (core_of s) p last more first → LinkGiven s p words at None → ⊥
     stuck [] k e g bad = omega (arith, ap length e, length-drop at words)
     stuck (l ∷ ls) k e g bad = bad l (all_words ls) e g.1
 
-    pub chained_stuck : at < length words → LinkGiven s p words at R.Refused → ValidLoop (core_of s) p words → ⊥
+    pub chained_stuck : at < length words → LinkGiven s p words at None → ValidLoop (core_of s) p words → ⊥
     chained_stuck k bad v = let o = onwards v in stuck o.more k o.rest_is o.chain bad
 
     -- the link that begins here does not begin where the last ended
@@ -150,5 +156,5 @@ module _ (s : List ℕ) (p : ℕ) (words : List ℕ) where
   pub too_long : 4224 < length words → ValidLoop (core_of s) p words → ⊥
   too_long h v = omega (arith, v.short)
 
-  pub none_first : LinkGiven s p words 0 R.Refused → ValidLoop (core_of s) p words → ⊥
+  pub none_first : LinkGiven s p words 0 None → ValidLoop (core_of s) p words → ⊥
   none_first bad v = bad v.first (all_words v.others) v.words_are v.closed.1

@@ -1,7 +1,7 @@
 -- A path followed wire by wire along the words.
 -- Assumes nothing.
 use Rattle.std.specs.Prelude.{◌≡◌, refl, List, [], ◌∷◌, ◌++◌, ℕ, suc, ◌+◌, ◌<◌, ◌≤◌, length, take, drop, get_or, pos}
-use Rattle.std.proofs.Common.{sym, ap, ◌∙◌, subst, arith, add-one, length-drop, take-suc, get_or-drop, take-take, get_or-take, length-take-le}
+use Rattle.std.proofs.Common.{sym, ap, ◌∙◌, subst, arith, add-one, take-suc, take-take, get_or-take, length-take-le}
 use Rattle.std.proofs.Math.Seq.{split_at}
 use Rattle.sheet.specs.Core.{shape_of, blocks_in, wires_in, delay_in, from_in, to_in, registers_in}
 use Rattle.sheet.specs.Laws.Integer.{minus}
@@ -10,21 +10,14 @@ use Rattle.paths.specs.Path.{Joins, registers_on, end_of}
 use Rattle.paths.specs.Laws.Path.{passes_all, between_passes, joins_snoc, joins_end, joins_right, joins_start_lt, registers_snoc}
 use Rattle.paths.proofs.Delays.{delay_snoc}
 use Rattle.loops.specs.Link.{path}
-use Rattle.loops.specs.Reads.{PathHead, LinkGiven, StepIs, StepGiven, Followed, FollowGiven}
+use Rattle.loops.specs.Reads.{PathHead, LinkGiven, StepIs, Followed, FollowGiven}
 use Rattle.loops.specs.Laws.Links.{not_good}
+use Rattle.std.specs.Prelude.{Option, Some, None}
 use Rattle.loops.specs.declared.link.Link.TheVariants as L
-use Rattle.loops.specs.declared.link.LinkRead.TheVariants as R
-use Rattle.loops.specs.declared.path.Step.{Step}
-use Rattle.loops.specs.declared.path.Step.TheVariants as S
+use Rattle.loops.specs.declared.path.Leg.{Leg}
 
--- ---- a step's answer once its case is known
+-- ---- one step
 module _ (s : List ℕ) (here j : ℕ) where
-  pub step_read : (r : Step) (t w d : ℕ) → StepGiven s here j r → r ≡ S.To t w d → StepIs s here j t w d
-  step_read r t w d h e = subst (StepGiven s here j) e h
-
-  pub step_refused : (r : Step) → StepGiven s here j r → r ≡ S.Refused → j < wires_in s → from_in s j ≡ here → ⊥
-  step_refused r h e = subst (StepGiven s here j) e h
-
   pub step_good : (f t w d lo hi : ℕ) → j < wires_in s → WireIs s j f t w → f ≡ here → BlockIs s t d lo hi → StepIs s here j t w d
   step_good f t w d lo hi h i e b = record {
     wire = h;
@@ -57,52 +50,42 @@ module _ (s ws : List ℕ) (u : ℕ) where
         }
 
     -- the next wire does not lead on
-    pub follow_stuck : (count j : ℕ) → i < count → count ≤ length ws → j ≡ get_or ws i 0 → (j < wires_in s → from_in s j ≡ here → ⊥) → FollowGiven s ws u count S.Refused
+    pub follow_stuck : (count j : ℕ) → i < count → count ≤ length ws → j ≡ get_or ws i 0 → (j < wires_in s → from_in s j ≡ here → ⊥) → FollowGiven s ws u count None
     follow_stuck count j h l q bad g =
         let xs = take count ws in
         let k : xs ≡ take i ws ++ get_or ws i 0 ∷ drop (suc i) xs = split_at xs i 0 (omega (arith, length-take-le count ws l)) ∙ rw (take-take i count ws (omega arith), get_or-take count ws i 0 h) refl in
         let o = joins_right (shape_of s) u (take i ws) (get_or ws i 0 ∷ drop (suc i) xs) (end_of (shape_of s) u xs) (subst (λ (ys : List ℕ). Joins (shape_of s) u ys (end_of (shape_of s) u xs)) k g) in
         bad (rw q o.1) (rw q (o.2 ∙ joins_end (shape_of s) u (take i ws) here f.joins))
 
-    pub follow_end : (count : ℕ) → i ≡ count → FollowGiven s ws u count (S.To here r d)
-    follow_end count e = rw e at f
-
-  pub start_out : (count : ℕ) → blocks_in s ≤ u → FollowGiven s ws u count S.Refused
+  pub start_out : (count : ℕ) → blocks_in s ≤ u → FollowGiven s ws u count None
   start_out count h g = omega (arith, joins_start_lt (shape_of s) u (take count ws) (end_of (shape_of s) u (take count ws)) g)
 
-  pub followed : (count : ℕ) (r : Step) (end w d : ℕ) → FollowGiven s ws u count r → r ≡ S.To end w d → Followed s ws u count end w d
-  followed count r end w d f e = subst (FollowGiven s ws u count) e f
-
--- ---- the wires as words
-module _ (s words : List ℕ) (from u count : ℕ) (h : from + count ≤ length words) where
-  abbrev wires : List ℕ
-  wires = drop from words
-
-  wires_there : count ≤ length wires
-  wires_there = omega (arith, length-drop from words)
-
-  module _ (i here r d j : ℕ) (f : Followed s wires u i here r d) (k : i < count) (q : j ≡ get_or words (from + i) 0) where
-    pub words_stuck : (j < wires_in s → from_in s j ≡ here → ⊥) → FollowGiven s wires u count S.Refused
-    words_stuck bad = follow_stuck s wires u i here r d f count j k wires_there (q ∙ sym (get_or-drop from words i 0)) bad
-
-    pub words_step : (t w e : ℕ) → StepIs s here j t w e → Followed s wires u (i + 1) t (r + w) (d + e)
-    words_step t w e g = follow_step s wires u i here r d f j t w e (omega (arith, wires_there)) (q ∙ sym (get_or-drop from words i 0)) g
+-- ---- the first `count` words alone say the same
+pub follow_part : (s ws : List ℕ) (u count : ℕ) → count ≤ length ws → (r : Option Leg) → FollowGiven s (take count ws) u (length (take count ws)) r → FollowGiven s ws u count r
+follow_part s ws u count h (Some leg) f = followed (rw (length-take-le count ws h) at f)
+  where
+    followed : Followed s (take count ws) u count leg.to leg.registers leg.delay → Followed s ws u count leg.to leg.registers leg.delay
+    followed g =
+        let e : take count (take count ws) ≡ take count ws = take-take count count ws (omega arith) in
+        record { joins = rw e at g.joins; registers_is = rw e at g.registers_is; delay_is = rw e at g.delay_is; few = g.few; short = g.short }
+follow_part s ws u count h None f = λ g.
+    let e : take (length (take count ws)) (take count ws) ≡ take count ws = rw (length-take-le count ws h) (take-take count count ws (omega arith)) in
+    f (rw e g)
 
 -- ---- the link, where the words say that it is a path
 module _ (s : List ℕ) (p : ℕ) (words : List ℕ) (at u count : ℕ) (h : PathHead words at u count) where
   abbrev along : List ℕ
   along = drop (at + 3) words
 
-  pub path_stuck : (r : Step) → FollowGiven s along u count r → r ≡ S.Refused → LinkGiven s p words at R.Refused
-  path_stuck r f e =
-      not_good s p words at (at + 3 + count) (path u (take count along)) h (λ g. subst (FollowGiven s along u count) e f g.0)
+  pub path_stuck : FollowGiven s along u count None → LinkGiven s p words at None
+  path_stuck f = not_good s p words at (at + 3 + count) (path u (take count along)) h (λ g. f g.0)
 
   module _ (end w d : ℕ) (f : Followed s along u count end w d) where
-    pub path_quick : d ≤ p → LinkGiven s p words at R.Refused
+    pub path_quick : d ≤ p → LinkGiven s p words at None
     path_quick k =
         not_good s p words at (at + 3 + count) (path u (take count along)) h (λ g. omega (arith, g.1, f.delay_is))
 
-    pub path_good : p < d → LinkGiven s p words at (R.Good (record { link = L.Path u count; a = u; b = end; k = w + 32767; next = at + 3 + count }))
+    pub path_good : p < d → LinkGiven s p words at (Some (record { link = L.Path u count; a = u; b = end; k = w + 32767; next = at + 3 + count }))
     path_good k =
         let q = joins_end (shape_of s) u (take count along) end f.joins in
         record {
