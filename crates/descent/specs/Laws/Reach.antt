@@ -1,10 +1,10 @@
 -- The period that lags at rest reach, and the search for the least.
 -- Assumes nothing.
-use Rattle.std.specs.Prelude.{ℕ, ◌+◌, ◌*◌, ◌-◌, ◌<◌, ◌≤◌, ◌≡◌, List, length, get_or, set}
+use Rattle.std.specs.Prelude.{min, ℕ, ◌+◌, ◌*◌, ◌-◌, ◌<◌, ◌≤◌, ◌≡◌, List, length, get_or, set}
 use Rattle.std.proofs.Common.{◌∙◌, arith, below_more, length-set, get_or-set_same, get_or-set_other}
 use Rattle.std.proofs.Math.Decide.{dec_le}
 use Rattle.descent.specs.System.{key, Floor}
-use Rattle.descent.specs.State.{AtRest, Settled}
+use Rattle.descent.specs.State.{AtRest, Stop}
 use Rattle.descent.specs.Least.{LeastRest, Kept, Lags, Resting, Reach, Scaled, Near, Nearing, Nears}
 use Rattle.descent.specs.Laws.System.{state_stays, floor_none}
 
@@ -34,20 +34,12 @@ near_start keys scaled v plus best = record { within = omega arith; each = λ u 
 pub near_key : {keys scaled : List ℕ} {v plus u : ℕ} → Nearing keys scaled v plus → u < 64 → (get_or keys (v * 64 + u) 0 ≤ 2099249152) × (get_or scaled u 0 ≤ get_or keys (v * 64 + u) 0 + plus)
 near_key {v = v} {u = u} N h = (N.keys_small (v * 64 + u), N.enough u h)
 
-module _ {keys scaled : List ℕ} {v plus best u r : ℕ} (N : Near keys scaled v plus best u r) {x : ℕ} (q : x + get_or scaled u 0 ≡ get_or keys (v * 64 + u) 0 + plus) where
-  pub near_less : x < r → Near keys scaled v plus best (u + 1) x
-  near_less h = record {
-    within = omega (arith, N.within);
-    each = below_more (λ (w : ℕ). x + get_or scaled w 0 ≤ get_or keys (v * 64 + w) 0 + plus) u (λ w l. omega (arith, N.each w l)) (omega arith);
-    most = λ d _ f. omega (arith, f u (omega arith));
-  }
-
-  pub near_same : r ≤ x → Near keys scaled v plus best (u + 1) r
-  near_same h = record {
-    within = N.within;
-    each = below_more (λ (w : ℕ). r + get_or scaled w 0 ≤ get_or keys (v * 64 + w) 0 + plus) u N.each (omega arith);
-    most = λ d l f. N.most d l (λ w k. f w (omega arith));
-  }
+pub near_turn : {keys scaled : List ℕ} {v plus best u r least : ℕ} (x : ℕ) → Near keys scaled v plus best u r → x + get_or scaled u 0 ≡ get_or keys (v * 64 + u) 0 + plus → least ≡ min r x → Near keys scaled v plus best (u + 1) least
+near_turn {keys} {scaled} {v} {plus} {u = u} {least = least} x N q m = record {
+  within = omega (arith, N.within);
+  each = below_more (λ (w : ℕ). least + get_or scaled w 0 ≤ get_or keys (v * 64 + w) 0 + plus) u (λ w l. omega (arith, N.each w l)) (omega arith);
+  most = λ d l f. omega (arith, f u (omega arith), N.most d l (λ w k. f w (omega (arith, k))));
+}
 
 pub near_end : {keys scaled : List ℕ} {v plus best u r : ℕ} → Near keys scaled v plus best u r → 64 ≤ u → u ≤ 64 → Near keys scaled v plus best 64 r
 near_end {u = u} N le ge = let q : u ≡ 64 = omega arith in rw (← q) N
@@ -129,23 +121,17 @@ pub record Searched (keys lower upper : List ℕ) (c low high : ℕ) (e : List �
 pub search_start : {keys lower upper : List ℕ} {c r : ℕ} {e : List ℕ} → AtRest keys lower upper c e → Reach keys e r → Searched keys lower upper c 0 r e
 search_start A R = record { rest = reach_rest A R; floor = floor_none; within = reach_within A R }
 
-module _ {keys lower upper : List ℕ} {c low high : ℕ} {e : List ℕ} (H : Searched keys lower upper c low high e) {middle : ℕ} {e' links' : List ℕ} {r : ℕ} (T : Settled keys lower upper middle e' links' r) where
+module _ {keys lower upper : List ℕ} {c low high : ℕ} {e : List ℕ} (H : Searched keys lower upper c low high e) {middle : ℕ} where
   -- lags at rest at the middle
-  pub search_less : {h : ℕ} → r ≡ 0 → Reach keys e' h → h ≤ middle
-  search_less z R = reach_within (T.rest z) R
+  pub search_less : {h : ℕ} {e' : List ℕ} → AtRest keys lower upper middle e' → Reach keys e' h → h ≤ middle
+  search_less A R = reach_within A R
 
-  pub search_down : {h : ℕ} → r ≡ 0 → middle ≤ high → Reach keys e' h → Searched keys lower upper c low h e'
-  search_down z le R = record {
-    rest = reach_rest (T.rest z) R;
-    floor = H.floor;
-    within = omega (arith, reach_within (T.rest z) R, H.within);
-  }
+  pub search_down : {h : ℕ} {e' : List ℕ} → AtRest keys lower upper middle e' → middle ≤ high → Reach keys e' h → Searched keys lower upper c low h e'
+  search_down A le R = record { rest = reach_rest A R; floor = H.floor; within = omega (arith, reach_within A R, H.within) }
 
   -- none below r
-  pub search_up : (r ≡ 0 → ⊥) → Searched keys lower upper c r high e × (middle < r) × (r ≤ high)
-  search_up n =
-      let q = T.stop.none n in
-      (record { rest = H.rest; floor = q.1; within = H.within }, q.0, floor_under H.rest q.1)
+  pub search_up : {r : ℕ} → Stop keys lower upper middle r → Searched keys lower upper c r high e × (middle < r) × (r ≤ high)
+  search_up T = (record { rest = H.rest; floor = T.floor; within = H.within }, T.beyond, floor_under H.rest T.floor)
 
 pub search_end : {keys lower upper : List ℕ} {c low high : ℕ} {e : List ℕ} → Searched keys lower upper c low high e → high ≤ low → LeastRest keys lower upper c high e
 search_end H le = record { rest = H.rest; floor = λ d s h K. H.floor d s (omega arith) K; within = H.within }
