@@ -7,7 +7,9 @@ use Rattle.sheet.specs.Core.{Shape}
 use Rattle.paths.specs.Lists.{held, list_shape, Wires, Delays}
 use Rattle.paths.proofs.Way.{Limits}
 use Rattle.keys.specs.Keys.{entry, Turns}
-use Rattle.keys.specs.Filling.{Blank, Lanes, Counts, spot_at, turn_at, News, Stepped, Stepped.idle, Stepped.tried, Standing, Holds, Settling, Sweeping, Swept}
+use Rattle.keys.specs.declared.order.Direction.{Direction}
+use Rattle.keys.specs.declared.order.Direction.TheVariants.{Forwards, Backwards}
+use Rattle.keys.specs.Filling.{Blank, Lanes, Counts, turn_at, News, Stepped, Stepped.idle, Stepped.tried, Standing, Holds, Settling, Sweeping, Swept}
 use Rattle.sheet.specs.Laws.Sum.{sum}
 use Rattle.keys.specs.Laws.Sum.{sum_most}
 use Rattle.keys.specs.Laws.Entry.{stored, counts_same}
@@ -19,20 +21,13 @@ pub wire_room : {n m : ℕ} {delays from to registers : List ℕ} → Wires n m 
 wire_room {to = to} W D j h =
     (omega (arith, W.from_block j h, W.few_blocks), omega (arith, W.to_block j h, W.few_blocks), W.few j h, D.small (get_or to j 0) (W.to_block j h))
 
--- a place, as code counts it
-pub spot_last : (k : ℕ) (back : Bool) (i : ℕ) → i < k → back ≡ true → (k - 1 - i ≡ spot_at k back i) × (k - 1 - i < k)
-spot_last k back i h e = (rw e refl, omega arith)
-
-pub spot_first : (k : ℕ) (back : Bool) (i : ℕ) → i < k → back ≡ false → (i ≡ spot_at k back i) × (i < k)
-spot_first k back i h e = (rw e refl, h)
-
 -- every wire has its place, forwards and backwards
-turn_every : {m : ℕ} {turns : List ℕ} → Turns m turns → (back : Bool) (j : ℕ) → j < m → (p : ℕ) × (p < m) × (turn_at m turns back p ≡ j)
-turn_every {m} {turns} T true j h =
+turn_every : {m : ℕ} {turns : List ℕ} → Turns m turns → (way : Direction) (j : ℕ) → j < m → (p : ℕ) × (p < m) × (turn_at m turns way p ≡ j)
+turn_every {m} {turns} T Backwards j h =
     let y = T.every j h in
     let e : m - 1 - (m - 1 - y.0) ≡ y.0 = omega (arith, y.1) in
     (m - 1 - y.0, omega (arith, y.1), ap (λ (i : ℕ). get_or turns i 0) e ∙ y.2)
-turn_every T false j h = T.every j h
+turn_every T Forwards j h = T.every j h
 
 -- a wire lowers at most one entry for each start block
 pub stepped_few : {f t plus minus j : ℕ} {versions seen keys versions' seen' keys' : List ℕ} {r : ℕ} → Stepped f t plus minus j versions seen keys versions' seen' keys' r → r ≤ 64
@@ -130,12 +125,12 @@ module _ {s : Shape} {w : ℕ → ℕ} where
         rw y.0 (below_more (λ (q : ℕ). Holds s w keys (turn q)) p (X.met (omega (arith, z))) (rw (← is) y.1));
   }
 
-  pub sweep_ends : {turns : List ℕ} (back : Bool) {first versions seen keys : List ℕ} {p changed : ℕ} → Turns s.m turns → s.m ≤ p → p ≤ s.m
-      → Sweeping s w (turn_at s.m turns back) first p versions seen keys changed → Swept s w first versions seen keys changed
-  sweep_ends {turns} back {keys = keys} T h1 h2 X = record {
+  pub sweep_ends : {turns : List ℕ} (way : Direction) {first versions seen keys : List ℕ} {p changed : ℕ} → Turns s.m turns → s.m ≤ p → p ≤ s.m
+      → Sweeping s w (turn_at s.m turns way) first p versions seen keys changed → Swept s w first versions seen keys changed
+  sweep_ends {turns} way {keys = keys} T h1 h2 X = record {
     settling = X.settling;
     less = X.less;
-    ended = λ z j hj. let y = turn_every T back j hj in subst (Holds s w keys) y.2 (X.met z y.0 (omega (arith, y.1)));
+    ended = λ z j hj. let y = turn_every T way j hj in subst (Holds s w keys) y.2 (X.met z y.0 (omega (arith, y.1)));
   }
 
 -- before the first sweep no wire has seen its start's row

@@ -2,8 +2,8 @@
 use Rattle.keys.specs.Laws.Sweep.{no_news, had_news}
 use Rattle.keys.proofs.sweep.step.Goals as goal
 
-pub returns-then-news : goal.returns-then-news
-returns-then-news c = had_news c.news.ensures c.if-news.true c.try_wire-r.ensures
+pub returns-then-take_news : goal.returns-then-take_news
+returns-then-take_news c = rw c.take_news.ensures.rows (had_news c.take_news.ensures.seen c.if-take_news.true c.try_wire-r.ensures)
 
 pub returns : goal.returns
-returns c = no_news c.news.ensures c.if-news.false
+returns c = rw c.take_news.ensures.rows (no_news c.take_news.ensures.seen c.if-take_news.false)
