@@ -41,14 +41,14 @@ fn follow(keys: &[u32; 4096], c: u32, start: usize, limit: usize, links: &[u32; 
         total: 64,
         until: u32::MAX,
     };
-    for k in 0..limit {
+    for _ in 0..limit {
         let next = links[chain.end] as usize;
         if next >= 64 {
-            return chain;
+            break;
         }
         chain = chain.join(keys, c, next);
         if next == start {
-            return chain;
+            break;
         }
     }
     chain
@@ -68,13 +68,10 @@ pub fn test_chain(
     let chain = follow(rules.keys, c, start, limit, links);
     let broken = NoLags { below: chain.until };
     if chain.end == start {
-        return if chain.total < 64 {
-            Err(broken)
-        } else {
-            Ok(())
-        };
-    }
-    if rules.upper[chain.end] + chain.total < rules.lower[start] + 64 {
+        if chain.total < 64 {
+            return Err(broken);
+        }
+    } else if rules.upper[chain.end] + chain.total < rules.lower[start] + 64 {
         return Err(broken);
     }
     Ok(())

@@ -11,7 +11,7 @@ pub struct Rules<'a> {
 }
 
 // No lags keep the rules at any period below this.
-#[derive(Clone, Copy)]
+#[derive(Clone, Copy, Debug, PartialEq, Eq)]
 pub struct NoLags {
     pub below: u32,
 }

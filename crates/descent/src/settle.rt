@@ -66,7 +66,7 @@ impl Descent {
         Ok(())
     }
 
-    // Whether some block has moved since it was last seen.
+    // Whether some block has moved since it was last seen; a loop, as in `column`, since an `any` becomes no vector.
     fn is_moving(&self) -> bool
         ensures { Left self.now.lags self.now.seen 64 result }
     {

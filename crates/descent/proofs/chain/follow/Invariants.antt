@@ -2,5 +2,5 @@
 use Rattle.descent.specs.Chain.{Chained}
 use Rattle.descent.proofs.chain.follow.Given as goal
 
-abbrev pub invariant-loop-k : goal.invariant-loop-k
-invariant-loop-k l = Chained l.keys l.c l.start l.k l.chain
+abbrev pub invariant-loop : goal.invariant-loop
+invariant-loop l = Chained l.keys l.c l.start l.counter l.chain
