@@ -1,15 +1,13 @@
 -- Blocks taken one after another, round after round.
 -- Assumes nothing.
-use Rattle.std.specs.Prelude.{Bool, true, false, ℕ, ◌+◌, ◌<◌, ◌≤◌, ◌≡◌, refl, ◌⊎◌, List, get_or, set, replicate, Result, Ok, Err, OnOk}
-use Rattle.std.proofs.Common.{sym, ◌∙◌, inl, inr, arith, below_more, length-set, get_or-set_same, get_or-set_other}
+use Rattle.std.specs.Prelude.{Bool, false, ℕ, ◌<◌, ◌≤◌, ◌≡◌, List, get_or, set, replicate, Result, Ok, Err, OnOk}
+use Rattle.std.proofs.Common.{sym, ◌∙◌, inl, arith, length-set, get_or-set_same, get_or-set_other}
 use Rattle.std.proofs.Math.Decide.{ℕ_discrete}
 use Rattle.std.proofs.lemmas.List.{get_or-replicate, length-replicate}
 use Rattle.sheet.specs.Laws.Sum.{sum, sum_set}
-use Rattle.descent.specs.State.{State, AtRest, IsColumn, Falls, Stays, Pushed, Under, work, Going, Stepped, Rounded, Left}
+use Rattle.descent.specs.State.{State, IsColumn, Falls, Stays, Pushed, Under, Going, Stepped}
 use Rattle.descent.specs.declared.rules.NoLags.{NoLags}
-use Rattle.descent.specs.Chain.{Sinking}
-use Rattle.descent.specs.Laws.System.{at_rest}
-use Rattle.descent.specs.Laws.Push.{no_rise, pushed_below, pushed_state, own_kept, still_kept}
+use Rattle.descent.specs.Laws.Push.{no_rise, pushed_state, own_kept, still_kept}
 
 module _ {keys lower upper : List ℕ} {c : ℕ} {e seen : List ℕ} (G : Going keys lower upper c e seen) where
   -- the column of a block, at its lag
@@ -23,11 +21,7 @@ module _ {keys lower upper : List ℕ} {c : ℕ} {e seen : List ℕ} (G : Going 
         lag_small = omega (arith, S.high v h, S.fit.high v h);
       }
 
-  -- ---- one block, at each way out
   module _ {v : ℕ} (hv : v < 64) where
-    pub step_idle : get_or seen v 0 ≡ get_or e v 0 → Stepped keys lower upper c v e seen e seen
-    step_idle z = record { on = G; less = record { done = inr (refl, refl, sym z) } }
-
     module _ (moved : get_or seen v 0 ≡ get_or e v 0 → ⊥) where
       -- v is seen where it stands
       abbrev now_seen : List ℕ
@@ -85,41 +79,6 @@ module _ {keys lower upper : List ℕ} {c : ℕ} {e seen : List ℕ} (G : Going 
         step_tested z (Ok _) = step_pushed z
         step_tested z (Err _) = tt
 
-        -- and a block has sunk
-        pub sinking : sunk ≡ true → Sinking keys lower upper c e'
-        sinking z =
-            let s = U.one z in
-            record { fit = G.state.fit; e_long = P.e_long; most = pushed_below G.state hv P; block = s.0; inside = s.1; under = s.2 }
-
-  -- ---- one round
-  pub round_start : Rounded keys lower upper c 0 e seen e seen
-  round_start = record { on = G; less = record { done = inr (refl, refl, λ w h. absurd (omega (arith, h))) } }
-
-module _ {keys lower upper : List ℕ} {c : ℕ} {e seen e₁ seen₁ : List ℕ} {v : ℕ} (R : Rounded keys lower upper c v e seen e₁ seen₁) where
-  pub round_more : {e₂ seen₂ : List ℕ} → Stepped keys lower upper c v e₁ seen₁ e₂ seen₂ → Rounded keys lower upper c (v + 1) e seen e₂ seen₂
-  round_more {e₂} {seen₂} T = record { on = T.on; less = record { done = go R.less.done T.less.done } }
-    where
-      go : (work e₁ seen₁ < work e seen) ⊎ ((e₁ ≡ e) × (seen₁ ≡ seen) × ((w : ℕ) → w < v → get_or e w 0 ≡ get_or seen w 0))
-          → (work e₂ seen₂ < work e₁ seen₁) ⊎ ((e₂ ≡ e₁) × (seen₂ ≡ seen₁) × (get_or e₁ v 0 ≡ get_or seen₁ v 0))
-          → (work e₂ seen₂ < work e seen) ⊎ ((e₂ ≡ e) × (seen₂ ≡ seen) × ((w : ℕ) → w < v + 1 → get_or e w 0 ≡ get_or seen w 0))
-      go (inl a) (inl b) = inl (omega arith)
-      go (inl a) (inr b) = inl (rw (b.0, b.1) a)
-      go (inr a) (inl b) = inl (rw (← a.0, ← a.1) b)
-      go (inr a) (inr b) =
-          inr (b.0 ∙ a.0, b.1 ∙ a.1, below_more (λ (w : ℕ). get_or e w 0 ≡ get_or seen w 0) v a.2 (rw (a.0, a.1) at b.2))
-
-  pub round_end : 64 ≤ v → v ≤ 64 → Rounded keys lower upper c 64 e seen e₁ seen₁
-  round_end le ge = let q : v ≡ 64 = omega arith in rw (← q) R
-
--- a round where some block has moved leaves less work
-pub round_less : {keys lower upper : List ℕ} {c : ℕ} {e seen e' seen' : List ℕ} {some : Bool} → Left e seen 64 some → some ≡ true
-    → Rounded keys lower upper c 64 e seen e' seen' → work e' seen' < work e seen
-round_less {e = e} {seen} {e'} {seen'} L z R = go R.less.done
-  where
-    go : (work e' seen' < work e seen) ⊎ ((e' ≡ e) × (seen' ≡ seen) × ((w : ℕ) → w < 64 → get_or e w 0 ≡ get_or seen w 0)) → work e' seen' < work e seen
-    go (inl a) = a
-    go (inr a) = let s = L.one z in absurd (s.2 (a.2 s.0 s.1))
-
 -- ---- the rounds: all blocks count as moved at first, none at the end
 pub going_start : {keys lower upper : List ℕ} {c : ℕ} {e : List ℕ} → State keys lower upper c e → c < 1048576 → Going keys lower upper c e (replicate 64 40000)
 going_start {e = e} S hc =
@@ -131,6 +90,3 @@ going_start {e = e} S hc =
       above = λ w h. omega (arith, far w h);
       quiet = λ w h z. absurd (omega (arith, far w h, z));
     }
-
-pub settle_rest : {keys lower upper : List ℕ} {c : ℕ} {e seen : List ℕ} {some : Bool} → Going keys lower upper c e seen → Left e seen 64 some → some ≡ false → AtRest keys lower upper c e
-settle_rest G L z = at_rest G.state (λ w u hw hu. G.quiet w hw (L.none z w hw) u hu)

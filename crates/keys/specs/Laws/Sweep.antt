@@ -1,25 +1,19 @@
 -- A sweep: its start, a wire met, its end.
 -- Assumes nothing.
-use Rattle.std.specs.Prelude.{◌≡◌, refl, ◌⊎◌, Bool, true, false, List, ℕ, ◌+◌, ◌*◌, ◌-◌, ◌/◌, ◌%◌, ◌≤◌, ◌<◌, length, get_or, set, replicate}
+use Rattle.std.specs.Prelude.{◌≡◌, refl, ◌⊎◌, List, ℕ, ◌+◌, ◌*◌, ◌-◌, ◌/◌, ◌%◌, ◌≤◌, ◌<◌, length, get_or, set, replicate}
 use Rattle.std.proofs.Common.{sym, ap, ◌∙◌, subst, inl, inr, arith, below_more, length-set}
 use Rattle.std.proofs.lemmas.List.{length-replicate, get_or-replicate}
 use Rattle.sheet.specs.Core.{Shape}
-use Rattle.paths.specs.Lists.{held, list_shape, Wires, Delays}
+use Rattle.paths.specs.Lists.{held, list_shape, Wires}
 use Rattle.paths.proofs.Way.{Limits}
 use Rattle.keys.specs.Keys.{entry, Turns}
 use Rattle.keys.specs.declared.order.Direction.{Direction}
 use Rattle.keys.specs.declared.order.Direction.TheVariants.{Forwards, Backwards}
-use Rattle.keys.specs.Filling.{Blank, Lanes, Counts, turn_at, News, Stepped, Stepped.idle, Stepped.tried, Standing, Holds, Settling, Sweeping, Swept}
+use Rattle.keys.specs.Filling.{Blank, Lanes, turn_at, Stepped, Stepped.idle, Stepped.tried, Standing, Holds, Settling, Sweeping, Swept}
 use Rattle.sheet.specs.Laws.Sum.{sum}
 use Rattle.keys.specs.Laws.Sum.{sum_most}
 use Rattle.keys.specs.Laws.Entry.{stored, counts_same}
 use Rattle.keys.specs.Laws.Stand.{standing_blank, standing_tried}
-
--- the numbers of a wire
-pub wire_room : {n m : ℕ} {delays from to registers : List ℕ} → Wires n m from to registers → Delays n delays → (j : ℕ) → j < m
-    → (get_or from j 0 < 64) × (get_or to j 0 < 64) × (get_or registers j 0 ≤ 2000) × (get_or delays (get_or to j 0) 0 ≤ 10000)
-wire_room {to = to} W D j h =
-    (omega (arith, W.from_block j h, W.few_blocks), omega (arith, W.to_block j h, W.few_blocks), W.few j h, D.small (get_or to j 0) (W.to_block j h))
 
 -- every wire has its place, forwards and backwards
 turn_every : {m : ℕ} {turns : List ℕ} → Turns m turns → (way : Direction) (j : ℕ) → j < m → (p : ℕ) × (p < m) × (turn_at m turns way p ≡ j)
@@ -38,22 +32,7 @@ stepped_less : {f t plus minus j : ℕ} {versions seen keys versions' seen' keys
 stepped_less (idle z _ _ ek _) = rw (z, ek) (omega arith)
 stepped_less (tried _ _ L) = L.less
 
--- the two ends of a meeting, as code comes to them
-pub no_news : {f t plus minus j : ℕ} {versions seen keys seen' : List ℕ} {b : Bool} → News f j versions seen seen' b → b ≡ false → Stepped f t plus minus j versions seen keys versions seen' keys 0
-no_news {f} {j = j} {versions} {seen} {seen' = seen'} N e = let h = subst (News f j versions seen seen') e N in idle refl refl h.0 refl h.1
-
-pub had_news : {f t plus minus j : ℕ} {versions seen keys seen' keys' : List ℕ} {b : Bool} {r : ℕ} → News f j versions seen seen' b → b ≡ true → Lanes f t plus minus 64 keys keys' r
-    → Stepped f t plus minus j versions seen keys (set versions t (get_or versions t 0 + r)) seen' keys' r
-had_news {f} {j = j} {versions} {seen} {seen' = seen'} N e L = tried refl (subst (News f j versions seen seen') e N) L
-
 module _ {s : Shape} {w : ℕ → ℕ} where
-  -- versions stay far below 2^64
-  pub settling_counts : {versions seen keys : List ℕ} → Settling s w versions seen keys → Counts 64 8598524526593 versions
-  settling_counts X = record { long = X.long; few = λ b. omega (arith, X.room b) }
-
-  pub sweep_none : (turn : ℕ → ℕ) {versions seen keys : List ℕ} → Settling s w versions seen keys → Sweeping s w turn keys 0 versions seen keys 0
-  sweep_none turn X = record { settling = X; few = omega arith; less = omega arith; met = λ _ q h. absurd (omega arith) }
-
   module _ (g : Limits s w) (narrow : s.n ≤ 64) (few_wires : s.m ≤ 256) (j : ℕ) (hj : j < s.m) {versions seen keys versions' seen' keys' : List ℕ} {r : ℕ}
       (X : Settling s w versions seen keys) where
     -- the wire was tried
