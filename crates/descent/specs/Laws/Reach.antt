@@ -5,6 +5,7 @@ use Rattle.std.proofs.Common.{arith, below_more}
 use Rattle.std.proofs.Math.Decide.{dec_le}
 use Rattle.descent.specs.System.{key, Floor}
 use Rattle.descent.specs.State.{AtRest}
+use Rattle.descent.specs.Laws.System.{state_stays}
 use Rattle.descent.specs.Least.{Kept, Lags, Resting, Reach, Scaled, Near, Nearing, Nears}
 
 -- ---- scaled lags
@@ -46,3 +47,18 @@ pub record Searched (keys lower upper : List ℕ) (c low high : ℕ) (e : List �
   pub rest : AtRest keys lower upper high e
   pub floor : Floor keys lower upper low
   pub within : high ≤ c
+
+-- lags at rest below are at rest at the period that they reach
+pub search_down : {keys lower upper : List ℕ} {c low high middle h : ℕ} {e e' : List ℕ} → Searched keys lower upper c low high e
+    → AtRest keys lower upper middle e' → middle ≤ high → Reach keys e' h → Searched keys lower upper c low h e'
+search_down {middle = middle} H A le R =
+    let S = A.state in
+    let w : _ ≤ middle = R.least middle A.keeps.rule in
+    record {
+      rest = record {
+        state = state_stays w S;
+        keeps = record { rule = R.kept; low = A.keeps.low; high = A.keeps.high };
+      };
+      floor = H.floor;
+      within = omega (arith, w, H.within);
+    }

@@ -1,13 +1,14 @@
 -- Blocks taken one after another, round after round.
 -- Assumes nothing.
-use Rattle.std.specs.Prelude.{Bool, false, ℕ, ◌<◌, ◌≤◌, ◌≡◌, List, get_or, set, replicate, Result, Ok, Err, OnOk}
+use Rattle.std.specs.Prelude.{Bool, true, false, ℕ, ◌<◌, ◌≤◌, ◌≡◌, List, get_or, set, replicate, Result, Ok, Err, OnOk}
 use Rattle.std.proofs.Common.{sym, ◌∙◌, inl, arith, length-set, get_or-set_same, get_or-set_other}
 use Rattle.std.proofs.Math.Decide.{ℕ_discrete}
 use Rattle.std.proofs.lemmas.List.{get_or-replicate, length-replicate}
 use Rattle.sheet.specs.Laws.Sum.{sum, sum_set}
 use Rattle.descent.specs.State.{State, IsColumn, Falls, Stays, Pushed, Under, Going, Stepped}
+use Rattle.descent.specs.Chain.{Sinking}
 use Rattle.descent.specs.declared.rules.NoLags.{NoLags}
-use Rattle.descent.specs.Laws.Push.{no_rise, pushed_state, own_kept, still_kept}
+use Rattle.descent.specs.Laws.Push.{no_rise, pushed_below, pushed_state, own_kept, still_kept}
 
 module _ {keys lower upper : List ℕ} {c : ℕ} {e seen : List ℕ} (G : Going keys lower upper c e seen) where
   -- the column of a block, at its lag
@@ -78,6 +79,12 @@ module _ {keys lower upper : List ℕ} {c : ℕ} {e seen : List ℕ} (G : Going 
         pub step_tested : sunk ≡ false → (r : Result (Unit {0}) NoLags) → OnOk r (Stepped keys lower upper c v e seen e' (set seen v (get_or e v 0)))
         step_tested z (Ok _) = step_pushed z
         step_tested z (Err _) = tt
+
+        -- and a block has sunk
+        pub sinking : sunk ≡ true → Sinking keys lower upper c e'
+        sinking z =
+            let s = U.one z in
+            record { fit = G.state.fit; e_long = P.e_long; most = pushed_below G.state hv P; block = s.0; inside = s.1; under = s.2 }
 
 -- ---- the rounds: all blocks count as moved at first, none at the end
 pub going_start : {keys lower upper : List ℕ} {c : ℕ} {e : List ℕ} → State keys lower upper c e → c < 1048576 → Going keys lower upper c e (replicate 64 40000)
