@@ -2,6 +2,5 @@
 pub mod System
 pub mod Column
 pub mod Push
-pub mod Chain
 pub mod Round
 pub mod Reach

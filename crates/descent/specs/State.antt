@@ -1,5 +1,5 @@
 -- What holds of lags on their way down, and what each function gives.
-use Rattle.std.specs.Prelude.{◌≡◌, ◌⊎◌, List, ℕ, ◌+◌, ◌≤◌, ◌<◌, length, get_or}
+use Rattle.std.specs.Prelude.{◌≡◌, ◌⊎◌, Bool, true, false, List, ℕ, ◌+◌, ◌≤◌, ◌<◌, length, get_or}
 use Rattle.sheet.specs.Laws.Sum.{sum}
 use Rattle.descent.specs.System.{slack, Fit, Keeps, Floor}
 
@@ -20,15 +20,15 @@ pub record AtRest (keys lower upper : List ℕ) (c : ℕ) (e : List ℕ) : Type 
   pub state : State keys lower upper c e
   pub keeps : Keeps keys lower upper c (λ b. get_or e b 0)
 
--- no lags exist below period r, which is beyond c; 0 says nothing
+-- no lags exist below period r, which is beyond c
 pub record Stop (keys lower upper : List ℕ) (c r : ℕ) : Type 0 where
-  pub none : (r ≡ 0 → ⊥) → (c < r) × Floor keys lower upper r
+  pub beyond : c < r
+  pub floor : Floor keys lower upper r
 
--- ---- counting: of the first k blocks r are such that Yes, the others such that No
-pub record Tally (Yes No : ℕ → Type 0) (k r : ℕ) : Type 0 where
-  pub few : r ≤ k
-  pub none : r ≡ 0 → (u : ℕ) → u < k → No u
-  pub some : 0 < r → (u : ℕ) × (u < k) × Yes u
+-- ---- testing: some of the first k blocks is such that Yes, or all are such that No
+pub record Told (Yes No : ℕ → Type 0) (k : ℕ) (some : Bool) : Type 0 where
+  pub none : some ≡ false → (u : ℕ) → u < k → No u
+  pub one : some ≡ true → (u : ℕ) × (u < k) × Yes u
 
 -- ---- what code needs of the keys, and of column v: the rules (u, v), where v has lag ev
 pub record Table (keys : List ℕ) (c : ℕ) : Type 0 where
@@ -36,7 +36,7 @@ pub record Table (keys : List ℕ) (c : ℕ) : Type 0 where
   pub small : (i : ℕ) → get_or keys i 0 ≤ 2099249152
   pub c_small : c < 1048576
 
-pub record Column (keys : List ℕ) (c v ev : ℕ) : Type 0 where
+pub record IsColumn (keys : List ℕ) (c v ev : ℕ) : Type 0 where
   pub table : Table keys c
   pub v_small : v < 64
   pub some_lag : 0 < ev
@@ -50,9 +50,9 @@ bar keys c v ev u = ev + slack keys c u v
 abbrev pub Stays : List ℕ → ℕ → ℕ → ℕ → List ℕ → ℕ → Type 0
 Stays keys c v ev e u = get_or e u 0 < bar keys c v ev u
 
--- column v lowers so many of the first k blocks
-abbrev pub Counted : List ℕ → ℕ → ℕ → ℕ → List ℕ → ℕ → ℕ → Type 0
-Counted keys c v ev e = Tally (λ u. bar keys c v ev u ≤ get_or e u 0) (λ u. Stays keys c v ev e u)
+-- whether column v lowers one of the first k blocks
+abbrev pub Falls : List ℕ → ℕ → ℕ → ℕ → List ℕ → ℕ → Bool → Type 0
+Falls keys c v ev e = Told (λ u. bar keys c v ev u ≤ get_or e u 0) (λ u. Stays keys c v ev e u)
 
 -- block u was lowered by column v, or stayed
 abbrev pub Lowered : List ℕ → ℕ → ℕ → ℕ → List ℕ → List ℕ → ℕ → Type 0
@@ -60,22 +60,20 @@ Lowered keys c v ev e e' u =
     ((bar keys c v ev u ≤ get_or e u 0) × (get_or e' u 0 + 1 ≡ bar keys c v ev u)) ⊎ (Stays keys c v ev e u × (get_or e' u 0 ≡ get_or e u 0))
 
 -- column v was pushed through the first k blocks; of the links nothing need be known
-pub record Pushed (keys : List ℕ) (c v ev : ℕ) (e e' links' : List ℕ) (k : ℕ) : Type 0 where
+pub record Pushed (keys : List ℕ) (c v ev : ℕ) (e e' : List ℕ) (k : ℕ) : Type 0 where
   pub e_long : length e' ≡ 64
-  pub links_long : length links' ≡ 64
   pub done : (u : ℕ) → u < k → Lowered keys c v ev e e' u
   pub rest : (u : ℕ) → k ≤ u → get_or e' u 0 ≡ get_or e u 0
   pub less : sum e' ≤ sum e
 
--- so many of the first k blocks stand below their lower limits
-abbrev pub Under : List ℕ → List ℕ → ℕ → ℕ → Type 0
-Under lower e = Tally (λ u. get_or e u 0 < get_or lower u 0) (λ u. get_or lower u 0 ≤ get_or e u 0)
+-- whether one of the first k blocks stands below its lower limit
+abbrev pub Under : List ℕ → List ℕ → ℕ → Bool → Type 0
+Under lower e = Told (λ u. get_or e u 0 < get_or lower u 0) (λ u. get_or lower u 0 ≤ get_or e u 0)
 
 -- ---- rounds: a block that stands where it was last seen has all the rules of its column kept
-pub record Going (keys lower upper : List ℕ) (c : ℕ) (e links seen : List ℕ) : Type 0 where
+pub record Going (keys lower upper : List ℕ) (c : ℕ) (e seen : List ℕ) : Type 0 where
   pub state : State keys lower upper c e
   pub c_small : c < 1048576
-  pub links_long : length links ≡ 64
   pub seen_long : length seen ≡ 64
   pub above : (w : ℕ) → w < 64 → get_or e w 0 ≤ get_or seen w 0
   pub quiet : (w : ℕ) → w < 64 → get_or e w 0 ≡ get_or seen w 0 → (u : ℕ) → u < 64 → Stays keys c w (get_or e w 0) e u
@@ -88,26 +86,16 @@ work e seen = sum e + sum seen
 pub record Worked (e seen e' seen' : List ℕ) (Idle : Type 0) : Type 0 where
   pub done : (work e' seen' < work e seen) ⊎ ((e' ≡ e) × (seen' ≡ seen) × Idle)
 
--- block v was tried, or no lags exist below period r
-pub record Stepped (keys lower upper : List ℕ) (c v : ℕ) (e seen e' links' seen' : List ℕ) (r : ℕ) : Type 0 where
-  pub on : r ≡ 0 → Going keys lower upper c e' links' seen'
-  pub less : r ≡ 0 → Worked e seen e' seen' (get_or e v 0 ≡ get_or seen v 0)
-  pub links_long : length links' ≡ 64
-  pub stop : Stop keys lower upper c r
+-- block v was tried
+pub record Stepped (keys lower upper : List ℕ) (c v : ℕ) (e seen e' seen' : List ℕ) : Type 0 where
+  pub on : Going keys lower upper c e' seen'
+  pub less : Worked e seen e' seen' (get_or e v 0 ≡ get_or seen v 0)
 
 -- the same of the first k blocks
-pub record Rounded (keys lower upper : List ℕ) (c k : ℕ) (e seen e' links' seen' : List ℕ) (r : ℕ) : Type 0 where
-  pub on : r ≡ 0 → Going keys lower upper c e' links' seen'
-  pub less : r ≡ 0 → Worked e seen e' seen' ((w : ℕ) → w < k → get_or e w 0 ≡ get_or seen w 0)
-  pub links_long : length links' ≡ 64
-  pub stop : Stop keys lower upper c r
+pub record Rounded (keys lower upper : List ℕ) (c k : ℕ) (e seen e' seen' : List ℕ) : Type 0 where
+  pub on : Going keys lower upper c e' seen'
+  pub less : Worked e seen e' seen' ((w : ℕ) → w < k → get_or e w 0 ≡ get_or seen w 0)
 
--- so many of the first k blocks have moved since they were last seen
-abbrev pub Left : List ℕ → List ℕ → ℕ → ℕ → Type 0
-Left e seen = Tally (λ w. get_or e w 0 ≡ get_or seen w 0 → ⊥) (λ w. get_or e w 0 ≡ get_or seen w 0)
-
--- the rounds have ended: at rest, or no lags exist below period r
-pub record Settled (keys lower upper : List ℕ) (c : ℕ) (e links : List ℕ) (r : ℕ) : Type 0 where
-  pub rest : r ≡ 0 → AtRest keys lower upper c e
-  pub links_long : length links ≡ 64
-  pub stop : Stop keys lower upper c r
+-- whether one of the first k blocks has moved since it was last seen
+abbrev pub Left : List ℕ → List ℕ → ℕ → Bool → Type 0
+Left e seen = Told (λ w. get_or e w 0 ≡ get_or seen w 0 → ⊥) (λ w. get_or e w 0 ≡ get_or seen w 0)

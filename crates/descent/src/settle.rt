@@ -1,102 +1,95 @@
 // Rounds over the columns of blocks that have moved, until none is left or a contradiction shows that there are no lags.
-ghost use Rattle.std.specs.Prelude.{◌≡◌, ℕ, ◌<◌, ◌≤◌, length};
-ghost use Rattle.descent.specs.State.{State, Going, Stepped, Rounded, Left, Settled};
+ghost use Rattle.std.specs.Prelude.{ℕ, ◌<◌, ◌≤◌, OnOk, IfErr};
+ghost use Rattle.descent.specs.State.{State, AtRest, Going, Stepped, Rounded, Left, Stop};
 
-use crate::chain::{floor_of, sunk_floor};
-use crate::column::{falls, push, under};
+use crate::chain::{sunk_floor, test_chain};
+use crate::column::{Column, under};
+use crate::rules::{NoLags, Rules};
 
-// Takes block v where it has moved since it was last seen: 0, or a period below which there are no lags.
-fn step(
-    keys: &[u32; 4096],
-    c: u32,
-    lower: &[u32; 64],
-    upper: &[u32; 64],
-    v: usize,
-    limit: usize,
-    e: &mut [u32; 64],
-    links: &mut [u32; 64],
-    seen: &mut [u32; 64],
-) -> u32
-    requires { Going keys.now lower.now upper.now c e.old links.old seen.old × (v < 64) × (limit ≤ 64) }
-    ensures { Stepped keys.now lower.now upper.now c v e.old seen.old e.new links.new seen.new result }
-{
-    let ev = e[v];
-    if seen[v] == ev {
-        return 0;
-    }
-    seen[v] = ev;
-    if falls(keys, c, v, ev, e) == 0 {
-        return 0;
-    }
-    push(keys, c, v, ev, e, links);
-    if under(e, lower) != 0 {
-        return sunk_floor(keys, c, v, lower, upper, e, links);
-    }
-    floor_of(keys, c, v, limit, lower, upper, links)
+// Lags on their way down: each block's lag as an excess number, the block whose rule lowered it last (none: 64 and
+// above), and the lag at which its column was taken last.
+#[derive(Clone, Copy)]
+pub struct Descent {
+    pub lags: [u32; 64],
+    links: [u32; 64],
+    seen: [u32; 64],
 }
 
-// One round over all blocks.
-fn round(
-    keys: &[u32; 4096],
-    c: u32,
-    lower: &[u32; 64],
-    upper: &[u32; 64],
-    limit: usize,
-    e: &mut [u32; 64],
-    links: &mut [u32; 64],
-    seen: &mut [u32; 64],
-) -> u32
-    requires { Going keys.now lower.now upper.now c e.old links.old seen.old × (limit ≤ 64) }
-    ensures { Rounded keys.now lower.now upper.now c 64 e.old seen.old e.new links.new seen.new result }
-{
-    let mut v: usize = 0;
-    while v < 64 {
-        let r = step(keys, c, lower, upper, v, limit, e, links, seen);
-        if r != 0 {
-            return r;
+impl Descent {
+    // All blocks at their upper limits.
+    pub fn start(rules: &Rules) -> Descent
+        ensures { (c : ℕ) → State rules.now.keys.now rules.now.lower.now rules.now.upper.now c result.lags }
+    {
+        Descent {
+            lags: *rules.upper,
+            links: [64; 64],
+            seen: [40000; 64],
         }
-        v += 1;
     }
-    0
-}
 
-// How many blocks have moved since they were last seen.
-fn left(e: &[u32; 64], seen: &[u32; 64]) -> u32
-    requires { (length e.now ≡ 64) × (length seen.now ≡ 64) }
-    ensures { Left e.now seen.now 64 result }
-{
-    let mut count: u32 = 0;
-    let mut w: usize = 0;
-    while w < 64 {
-        if e[w] != seen[w] {
-            count += 1;
+    // Takes block v's column where v has moved since it was last seen.
+    fn step(&mut self, rules: &Rules, c: u32, v: usize, limit: usize) -> Result<(), NoLags>
+        requires { Going rules.now.keys.now rules.now.lower.now rules.now.upper.now c self.old.lags self.old.seen × (v < 64) × (limit ≤ 64) }
+        ensures on { OnOk result (Stepped rules.now.keys.now rules.now.lower.now rules.now.upper.now c v self.old.lags self.old.seen self.new.lags self.new.seen) }
+        ensures stop { IfErr result (λ n. Stop rules.now.keys.now rules.now.lower.now rules.now.upper.now c n.below) }
+    {
+        let lag = self.lags[v];
+        if self.seen[v] == lag {
+            return Ok(());
         }
-        w += 1;
+        self.seen[v] = lag;
+        let column = Column {
+            keys: rules.keys,
+            period: c,
+            block: v,
+            lag,
+        };
+        if !column.lowers(&self.lags) {
+            return Ok(());
+        }
+        column.push(&mut self.lags, &mut self.links);
+        if under(&self.lags, rules.lower) {
+            return sunk_floor(rules, c, v, &self.lags, &self.links);
+        }
+        test_chain(rules, c, v, limit, &self.links)
     }
-    count
-}
 
-// The largest lags at period c stand in e (0), or there are none at any period below the result.
-// The first round looks a few links back for a contradiction, later ones all the way: most are short, or come late.
-pub fn settle(
-    keys: &[u32; 4096],
-    c: u32,
-    lower: &[u32; 64],
-    upper: &[u32; 64],
-    e: &mut [u32; 64],
-    links: &mut [u32; 64],
-) -> u32
-    requires { (c0 : ℕ) × State keys.now lower.now upper.now c0 e.old × (c ≤ c0) × (c < 1048576) × (length links.old ≡ 64) }
-    ensures { (c0 : ℕ) → State keys.now lower.now upper.now c0 e.old → c ≤ c0 → Settled keys.now lower.now upper.now c e.new links.new result }
-{
-    let mut seen: [u32; 64] = [40000; 64];
-    let mut limit: usize = 4;
-    while left(e, &seen) != 0 {
-        let r = round(keys, c, lower, upper, limit, e, links, &mut seen);
-        if r != 0 {
-            return r;
+    // One round over all blocks.
+    fn round(&mut self, rules: &Rules, c: u32, limit: usize) -> Result<(), NoLags>
+        requires { Going rules.now.keys.now rules.now.lower.now rules.now.upper.now c self.old.lags self.old.seen × (limit ≤ 64) }
+        ensures on { OnOk result (Rounded rules.now.keys.now rules.now.lower.now rules.now.upper.now c 64 self.old.lags self.old.seen self.new.lags self.new.seen) }
+        ensures stop { IfErr result (λ n. Stop rules.now.keys.now rules.now.lower.now rules.now.upper.now c n.below) }
+    {
+        for v in 0..64 {
+            self.step(rules, c, v, limit)?;
         }
-        limit = 64;
+        Ok(())
     }
-    0
+
+    // Whether some block has moved since it was last seen; a loop, as in `column`, since an `any` becomes no vector.
+    fn is_moving(&self) -> bool
+        ensures { Left self.now.lags self.now.seen 64 result }
+    {
+        let mut some = false;
+        for w in 0..64 {
+            some |= self.lags[w] != self.seen[w];
+        }
+        some
+    }
+
+    // Down to the largest lags at period c, or there are none.
+    // The first round looks a few links back for a contradiction, later ones all the way: most are short, or come late.
+    pub fn settle(&mut self, rules: &Rules, c: u32) -> Result<(), NoLags>
+        requires { State rules.now.keys.now rules.now.lower.now rules.now.upper.now c self.old.lags × (c < 1048576) }
+        ensures rest { OnOk result (AtRest rules.now.keys.now rules.now.lower.now rules.now.upper.now c self.new.lags) }
+        ensures stop { IfErr result (λ n. Stop rules.now.keys.now rules.now.lower.now rules.now.upper.now c n.below) }
+    {
+        self.seen = [40000; 64];
+        let mut limit = 4;
+        while self.is_moving() {
+            self.round(rules, c, limit)?;
+            limit = 64;
+        }
+        Ok(())
+    }
 }

@@ -13,10 +13,8 @@ pub fn blank(n: usize, delays: &[u32; 64], keys: &mut [u32; 4096])
     ensures { Blank n delays.now keys.new }
 {
     *keys = [FAR; 4096];
-    let mut b: usize = 0;
-    while b < n {
+    for b in 0..n {
         keys[b * 64 + b] = 1048576 - delays[b];
-        b += 1;
     }
 }
 
@@ -25,9 +23,8 @@ pub fn try_wire(keys: &mut [u32; 4096], f: usize, t: usize, plus: u32, minus: u3
     requires { Within keys.old × (f < 64) × (t < 64) × (plus ≤ 2097152000) × (minus ≤ 10000) }
     ensures { Lanes f t plus minus 64 keys.old keys.new result }
 {
-    let mut changed: u32 = 0;
-    let mut s: usize = 0;
-    while s < 64 {
+    let mut changed = 0;
+    for s in 0..64 {
         let x = keys[f * 64 + s] + plus - minus;
         let old = keys[t * 64 + s];
         let mut new = old;
@@ -36,7 +33,6 @@ pub fn try_wire(keys: &mut [u32; 4096], f: usize, t: usize, plus: u32, minus: u3
             changed += 1;
         }
         keys[t * 64 + s] = new;
-        s += 1;
     }
     changed
 }

@@ -1,14 +1,13 @@
 // The path table as one key for each pair of blocks, filled for all start blocks at once.
 #![tactic(auto)]
 
-ghost use Rattle.std.specs.Prelude.{◌≡◌, ℕ, ◌+◌, ◌*◌, ◌-◌, ◌<◌, length};
+ghost use Rattle.std.specs.Prelude.{ℕ};
 ghost use Rattle.paths.specs.Lists.{held, list_shape, Wires, Delays};
 ghost use Rattle.keys.specs.Keys.{Slow, Keyed, Folded, Turns};
 
 use crate::lanes::blank;
-use crate::order::{add_up, complete, count, heights, place, plain};
-use crate::sweep::sweep;
-use sheet::number::lesser;
+use crate::order::{Direction, add_up, complete, count, heights, place, plain};
+use crate::sweep::{Versions, sweep};
 
 mod lanes; // the 64 start blocks of one end block
 mod order; // the wires in an order, by counting
@@ -29,9 +28,8 @@ pub fn fill_keys(
     ensures { Keyed (list_shape n m delays.now from.now to.now) (held registers.now) keys.new }
 {
     blank(n, delays, keys);
-    let mut versions = [1usize; 64];
-    let mut seen = [0usize; 256];
-    let mut back = false;
+    let mut versions = Versions::new();
+    let mut way = Direction::Forwards;
     while sweep(
         n,
         m,
@@ -40,13 +38,12 @@ pub fn fill_keys(
         to,
         registers,
         turns,
-        back,
+        way,
         &mut versions,
-        &mut seen,
         keys,
     ) > 0
     {
-        back = !back;
+        way = way.turned();
     }
 }
 
@@ -58,14 +55,12 @@ pub fn fold_ceilings(
     registers: &[u32; 256],
     keys: &mut [u32; 4096],
 )
-    requires { (n : ℕ) × Wires n m from.now to.now registers.now × (length keys.old ≡ 4096) }
+    requires { (n : ℕ) × Wires n m from.now to.now registers.now }
     ensures { Folded m from.now to.now registers.now keys.old keys.new }
 {
-    let mut j: usize = 0;
-    while j < m {
+    for j in 0..m {
         let at = from[j] * 64 + to[j];
-        keys[at] = lesser((2001 - registers[j]) * 1048576, keys[at]);
-        j += 1;
+        keys[at] = keys[at].min((2001 - registers[j]) * 1048576);
     }
 }
 
@@ -76,20 +71,18 @@ pub fn in_turn(
     from: &[usize; 256],
     to: &[usize; 256],
     registers: &[u32; 256],
-    turns: &mut [usize; 256],
-)
-    requires { Wires n m from.now to.now registers.now × (length turns.old ≡ 256) }
-    ensures { Turns m turns.new }
+) -> [usize; 256]
+    requires { Wires n m from.now to.now registers.now }
+    ensures { Turns m result }
 {
-    let mut height = [0u32; 64];
-    heights(n, m, from, to, registers, &mut height);
-    let mut starts = [0usize; 128];
-    count(m, to, &height, &mut starts);
-    add_up(&mut starts);
-    let mut places = [0usize; 256];
-    place(m, to, &height, &mut starts, &mut places, turns);
-    if complete(m, &places, turns) {
-        return;
+    let height = heights(n, m, from, to, registers);
+    let mut starts = add_up(&count(m, to, &height));
+    let mut places = [0; 256];
+    let mut turns = [0; 256];
+    place(m, to, &height, &mut starts, &mut places, &mut turns);
+    if complete(m, &places, &turns) {
+        turns
+    } else {
+        plain()
     }
-    plain(m, turns);
 }

@@ -1,24 +1,43 @@
 // One sweep over the wires: a wire is tried where the row of its start changed since it was last tried.
 // Rows have versions, and each wire the version of its start's row that it has seen.
-ghost use Rattle.std.specs.Prelude.{◌≡◌, ℕ, ◌*◌, ◌<◌, length};
+ghost use Rattle.std.specs.Prelude.{◌≡◌, ℕ, ◌*◌, ◌<◌, replicate};
 ghost use Rattle.paths.specs.Lists.{held, list_shape, Wires, Delays};
 ghost use Rattle.keys.specs.Keys.{Slow, Turns};
 ghost use Rattle.keys.specs.Filling.{Within, Counts, News, Stepped, Settling, Swept};
 
 use crate::lanes::try_wire;
-use crate::order::spot;
+use crate::order::Direction;
 
-// Whether the row of block f changed since wire j last saw it: now it has seen it.
-fn news(f: usize, j: usize, versions: &[usize; 64], seen: &mut [usize; 256]) -> bool
-    requires { (f < 64) × (j < 256) × (length versions.now ≡ 64) × (length seen.old ≡ 256) }
-    ensures { News f j versions.now seen.old seen.new result }
-{
-    let version = versions[f];
-    if seen[j] == version {
-        return false;
+// The version of each block's row, and the one of its start's row that each wire has seen.
+#[derive(Clone, Copy)]
+pub struct Versions {
+    pub rows: [usize; 64],
+    pub seen: [usize; 256],
+}
+
+impl Versions {
+    // No wire has seen its start's row.
+    pub fn new() -> Versions
+        ensures rows { result.rows ≡ replicate 64 1 }
+        ensures seen { result.seen ≡ replicate 256 0 }
+    {
+        Versions {
+            rows: [1; 64],
+            seen: [0; 256],
+        }
     }
-    seen[j] = version;
-    true
+
+    // Whether the row of block f changed since wire j last saw it: now it has seen it.
+    fn take_news(&mut self, f: usize, j: usize) -> bool
+        requires { (f < 64) × (j < 256) }
+        ensures rows { self.new.rows ≡ self.old.rows }
+        ensures seen { News f j self.old.rows self.old.seen self.new.seen result }
+    {
+        let version = self.rows[f];
+        let news = self.seen[j] != version;
+        self.seen[j] = version;
+        news
+    }
 }
 
 // Meets wire j: the number of entries that it lowers. Each of them gives the end block's row a new version.
@@ -28,18 +47,17 @@ fn step(
     to: &[usize; 256],
     registers: &[u32; 256],
     j: usize,
-    versions: &mut [usize; 64],
-    seen: &mut [usize; 256],
+    versions: &mut Versions,
     keys: &mut [u32; 4096],
 ) -> u32
-    requires { (n : ℕ) × (m : ℕ) × Wires n m from.now to.now registers.now × Delays n delays.now × (j < m) × Counts 64 8598524526593 versions.old × (length seen.old ≡ 256) × Within keys.old }
-    ensures { Stepped (held from.now j) (held to.now j) (held registers.now j * 1048576) (held delays.now (held to.now j)) j versions.old seen.old keys.old versions.new seen.new keys.new result }
+    requires { (n : ℕ) × (m : ℕ) × Wires n m from.now to.now registers.now × Delays n delays.now × (j < m) × Counts 64 8598524526593 versions.old.rows × Within keys.old }
+    ensures { Stepped (held from.now j) (held to.now j) (held registers.now j * 1048576) (held delays.now (held to.now j)) j versions.old.rows versions.old.seen keys.old versions.new.rows versions.new.seen keys.new result }
 {
     let f = from[j];
-    if news(f, j, versions, seen) {
+    if versions.take_news(f, j) {
         let t = to[j];
         let r = try_wire(keys, f, t, registers[j] * 1048576, delays[t]);
-        versions[t] += r as usize;
+        versions.rows[t] += r as usize;
         return r;
     }
     0
@@ -54,21 +72,18 @@ pub fn sweep(
     to: &[usize; 256],
     registers: &[u32; 256],
     turns: &[usize; 256],
-    back: bool,
-    versions: &mut [usize; 64],
-    seen: &mut [usize; 256],
+    way: Direction,
+    versions: &mut Versions,
     keys: &mut [u32; 4096],
 ) -> u32
     requires wires { Wires n m from.now to.now registers.now × Delays n delays.now × Turns m turns.now × Slow (list_shape n m delays.now from.now to.now) (held registers.now) }
-    requires settling { Settling (list_shape n m delays.now from.now to.now) (held registers.now) versions.old seen.old keys.old }
-    ensures { Swept (list_shape n m delays.now from.now to.now) (held registers.now) keys.old versions.new seen.new keys.new result }
+    requires settling { Settling (list_shape n m delays.now from.now to.now) (held registers.now) versions.old.rows versions.old.seen keys.old }
+    ensures { Swept (list_shape n m delays.now from.now to.now) (held registers.now) keys.old versions.new.rows versions.new.seen keys.new result }
 {
-    let mut changed: u32 = 0;
-    let mut p: usize = 0;
-    while p < m {
-        let j = turns[spot(m, back, p)];
-        changed += step(delays, from, to, registers, j, versions, seen, keys);
-        p += 1;
+    let mut changed = 0;
+    for p in 0..m {
+        let j = turns[way.place(m, p)];
+        changed += step(delays, from, to, registers, j, versions, keys);
     }
     changed
 }

@@ -1,44 +1,12 @@
--- One column of the keys, lane by lane: counting and pushing.
+-- One column of the keys, pushed lane by lane.
 -- Assumes nothing.
-use Rattle.std.specs.Prelude.{ℕ, ◌+◌, ◌*◌, ◌<◌, ◌≤◌, ◌≡◌, refl, List, length, get_or, set}
+use Rattle.std.specs.Prelude.{ℕ, ◌+◌, ◌<◌, ◌≤◌, ◌≡◌, List, get_or, set}
 use Rattle.std.proofs.Common.{◌∙◌, inl, inr, arith, below_more, length-set, get_or-set_same, get_or-set_other}
 use Rattle.sheet.specs.Laws.Sum.{sum_set}
-use Rattle.descent.specs.State.{Tally, Column, bar, Lowered, Pushed}
+use Rattle.descent.specs.State.{bar, Lowered, Pushed}
 
--- ---- counting
-pub tally_start : (Yes No : ℕ → Type 0) → Tally Yes No 0 0
-tally_start Yes No = record { few = omega arith; none = λ _ u h. absurd (omega (arith, h)); some = λ h. absurd (omega (arith, h)) }
-
-module _ {Yes No : ℕ → Type 0} {k r : ℕ} (T : Tally Yes No k r) where
-  pub tally_more : Yes k → Tally Yes No (k + 1) (r + 1)
-  tally_more h = record { few = omega (arith, T.few); none = λ q. absurd (omega (arith, q)); some = λ _. (k, omega arith, h) }
-
-  pub tally_same : No k → Tally Yes No (k + 1) r
-  tally_same h = record {
-    few = omega (arith, T.few);
-    none = λ q. below_more No k (T.none q) h;
-    some = λ q. let s = T.some q in (s.0, omega (arith, s.1), s.2);
-  }
-
-  pub tally_end : 64 ≤ k → k ≤ 64 → Tally Yes No 64 r
-  tally_end le ge = let q : k ≡ 64 = omega arith in rw (← q) T
-
--- the key of a rule of the column
-pub key_small : {keys : List ℕ} {c v ev u : ℕ} → Column keys c v ev → u < 64 → get_or keys (v * 64 + u) 0 ≤ 2099249152
-key_small {keys} {c} {v} {ev} {u} K h = K.table.small (v * 64 + u)
-
--- ---- pushing
 module _ {keys : List ℕ} {c v ev : ℕ} (e : List ℕ) where
-  pub push_start : {links : List ℕ} → length e ≡ 64 → length links ≡ 64 → Pushed keys c v ev e e links 0
-  push_start le ll = record {
-    e_long = le;
-    links_long = ll;
-    done = λ u h. absurd (omega (arith, h));
-    rest = λ u _. refl;
-    less = omega arith;
-  }
-
-  module _ {e' links' : List ℕ} {u : ℕ} (P : Pushed keys c v ev e e' links' u) (hu : u < 64) (x p : ℕ) where
+  module _ {e' : List ℕ} {u : ℕ} (P : Pushed keys c v ev e e' u) (hu : u < 64) (x : ℕ) where
     stored : (w : ℕ) → (w ≡ u → ⊥) → get_or (set e' u x) w 0 ≡ get_or e' w 0
     stored w n = get_or-set_other e' u w x 0 n
 
@@ -48,24 +16,20 @@ module _ {keys : List ℕ} {c v ev : ℕ} (e : List ℕ) where
     before : (w : ℕ) → w < u → Lowered keys c v ev e (set e' u x) w
     before w h = let q = stored w (λ z. omega arith) in rw q (P.done w h)
 
-    push_turn : x ≤ get_or e' u 0 → Lowered keys c v ev e (set e' u x) u → Pushed keys c v ev e (set e' u x) (set links' u p) (u + 1)
+    push_turn : x ≤ get_or e' u 0 → Lowered keys c v ev e (set e' u x) u → Pushed keys c v ev e (set e' u x) (u + 1)
     push_turn le l = record {
       e_long = length-set e' u x ∙ P.e_long;
-      links_long = length-set links' u p ∙ P.links_long;
       done = below_more (λ (i : ℕ). Lowered keys c v ev e (set e' u x) i) u before l;
       rest = λ i h. stored i (λ z. omega arith) ∙ P.rest i (omega arith);
       less = omega (arith, P.less, sum_set e' u x (omega (arith, P.e_long)));
     }
 
     -- the block is lowered
-    pub push_lowers : x + 1 ≡ bar keys c v ev u → bar keys c v ev u ≤ get_or e' u 0 → Pushed keys c v ev e (set e' u x) (set links' u p) (u + 1)
+    pub push_lowers : x + 1 ≡ bar keys c v ev u → bar keys c v ev u ≤ get_or e' u 0 → Pushed keys c v ev e (set e' u x) (u + 1)
     push_lowers q h = push_turn (omega arith) (inl (omega (arith, P.rest u (omega arith)), omega (arith, here)))
 
     -- the block stays
-    pub push_stays : get_or e' u 0 < bar keys c v ev u → x ≡ get_or e' u 0 → Pushed keys c v ev e (set e' u x) (set links' u p) (u + 1)
+    pub push_stays : get_or e' u 0 < bar keys c v ev u → x ≡ get_or e' u 0 → Pushed keys c v ev e (set e' u x) (u + 1)
     push_stays h q =
         let r = P.rest u (omega arith) in
         push_turn (omega arith) (inr (omega (arith, r), here ∙ q ∙ r))
-
-  pub push_end : {e' links' : List ℕ} {u : ℕ} → Pushed keys c v ev e e' links' u → 64 ≤ u → u ≤ 64 → Pushed keys c v ev e e' links' 64
-  push_end {u = u} P le ge = let q : u ≡ 64 = omega arith in rw (← q) P

@@ -5,7 +5,7 @@ use Rattle.std.proofs.Common.{inl, inr, arith}
 use Rattle.descent.specs.State.{Below, State, Stays, Lowered, Pushed}
 use Rattle.descent.specs.Laws.System.{whole}
 
-module _ {keys lower upper : List ℕ} {c v : ℕ} {e e' links' : List ℕ} (S : State keys lower upper c e) (hv : v < 64) (P : Pushed keys c v (get_or e v 0) e e' links' 64) where
+module _ {keys lower upper : List ℕ} {c v : ℕ} {e e' : List ℕ} (S : State keys lower upper c e) (hv : v < 64) (P : Pushed keys c v (get_or e v 0) e e' 64) where
   pub no_rise : (u : ℕ) → u < 64 → get_or e' u 0 ≤ get_or e u 0
   no_rise u h = go (P.done u h)
     where

@@ -1,18 +1,18 @@
 -- Blocks taken one after another, round after round.
 -- Assumes nothing.
-use Rattle.std.specs.Prelude.{ℕ, ◌+◌, ◌<◌, ◌≤◌, ◌≡◌, refl, ◌⊎◌, List, length, get_or, set, replicate}
-use Rattle.std.proofs.Common.{sym, ◌∙◌, inl, inr, arith, below_more, length-set, get_or-set_same, get_or-set_other}
+use Rattle.std.specs.Prelude.{Bool, true, false, ℕ, ◌<◌, ◌≤◌, ◌≡◌, List, get_or, set, replicate, Result, Ok, Err, OnOk}
+use Rattle.std.proofs.Common.{sym, ◌∙◌, inl, arith, length-set, get_or-set_same, get_or-set_other}
 use Rattle.std.proofs.Math.Decide.{ℕ_discrete}
 use Rattle.std.proofs.lemmas.List.{get_or-replicate, length-replicate}
 use Rattle.sheet.specs.Laws.Sum.{sum, sum_set}
-use Rattle.descent.specs.State.{State, Column, Counted, Stays, Pushed, Under, Stop, work, Going, Stepped, Rounded, Left, Settled}
+use Rattle.descent.specs.State.{State, IsColumn, Falls, Stays, Pushed, Under, Going, Stepped}
 use Rattle.descent.specs.Chain.{Sinking}
-use Rattle.descent.specs.Laws.System.{at_rest, state_stays, says_nothing}
+use Rattle.descent.specs.declared.rules.NoLags.{NoLags}
 use Rattle.descent.specs.Laws.Push.{no_rise, pushed_below, pushed_state, own_kept, still_kept}
 
-module _ {keys lower upper : List ℕ} {c : ℕ} {e links seen : List ℕ} (G : Going keys lower upper c e links seen) where
+module _ {keys lower upper : List ℕ} {c : ℕ} {e seen : List ℕ} (G : Going keys lower upper c e seen) where
   -- the column of a block, at its lag
-  pub column : {v : ℕ} → v < 64 → Column keys c v (get_or e v 0)
+  pub column : {v : ℕ} → v < 64 → IsColumn keys c v (get_or e v 0)
   column {v} h =
       let S = G.state in
       record {
@@ -22,16 +22,7 @@ module _ {keys lower upper : List ℕ} {c : ℕ} {e links seen : List ℕ} (G : 
         lag_small = omega (arith, S.high v h, S.fit.high v h);
       }
 
-  -- ---- one block, at each way out
   module _ {v : ℕ} (hv : v < 64) where
-    pub step_idle : get_or seen v 0 ≡ get_or e v 0 → Stepped keys lower upper c v e seen e links seen 0
-    step_idle z = record {
-      on = λ _. G;
-      less = λ _. record { done = inr (refl, refl, sym z) };
-      links_long = G.links_long;
-      stop = says_nothing keys lower upper c;
-    }
-
     module _ (moved : get_or seen v 0 ≡ get_or e v 0 → ⊥) where
       -- v is seen where it stands
       abbrev now_seen : List ℕ
@@ -47,14 +38,13 @@ module _ {keys lower upper : List ℕ} {c : ℕ} {e links seen : List ℕ} (G : 
       seen_here = get_or-set_same seen v (get_or e v 0) 0 (omega (arith, G.seen_long))
 
       -- lags that have not risen, and rules that hold where lags stand as they did
-      going_on : {e' links' : List ℕ} → State keys lower upper c e' → length links' ≡ 64 → ((w : ℕ) → w < 64 → get_or e' w 0 ≤ get_or e w 0)
+      going_on : {e' : List ℕ} → State keys lower upper c e' → ((w : ℕ) → w < 64 → get_or e' w 0 ≤ get_or e w 0)
           → (get_or e' v 0 ≡ get_or e v 0 → (u : ℕ) → u < 64 → Stays keys c v (get_or e' v 0) e' u)
           → ((w : ℕ) → w < 64 → get_or e' w 0 ≡ get_or e w 0 → ((u : ℕ) → u < 64 → Stays keys c w (get_or e w 0) e u) → (u : ℕ) → u < 64 → Stays keys c w (get_or e' w 0) e' u)
-          → Going keys lower upper c e' links' now_seen
-      going_on {e'} S' ll fall own others = record {
+          → Going keys lower upper c e' now_seen
+      going_on {e'} S' fall own others = record {
         state = S';
         c_small = G.c_small;
-        links_long = ll;
         seen_long = length-set seen v (get_or e v 0) ∙ G.seen_long;
         above = λ w h. over w h (ℕ_discrete w v);
         quiet = λ w h. at w h (ℕ_discrete w v);
@@ -71,98 +61,39 @@ module _ {keys lower upper : List ℕ} {c : ℕ} {e links seen : List ℕ} (G : 
               others w h same (G.quiet w h (sym same ∙ t ∙ seen_same w n))
 
       -- column v lowers nothing
-      pub step_still : {r : ℕ} → Counted keys c v (get_or e v 0) e 64 r → r ≡ 0 → Stepped keys lower upper c v e seen e links (set seen v (get_or e v 0)) 0
+      pub step_still : {some : Bool} → Falls keys c v (get_or e v 0) e 64 some → some ≡ false → Stepped keys lower upper c v e seen e (set seen v (get_or e v 0))
       step_still C z = record {
-        on = λ _. going_on G.state G.links_long (λ w _. omega arith) (λ _. C.none z) (λ w h _ f. f);
-        less = λ _. record { done = inl (omega (arith, seen_less)) };
-        links_long = G.links_long;
-        stop = says_nothing keys lower upper c;
+        on = going_on G.state (λ w _. omega arith) (λ _. C.none z) (λ w h _ f. f);
+        less = record { done = inl (omega (arith, seen_less)) };
       }
 
-      module _ {e' links' : List ℕ} (P : Pushed keys c v (get_or e v 0) e e' links' 64) {sunk : ℕ} (U : Under lower e' 64 sunk) where
+      module _ {e' : List ℕ} (P : Pushed keys c v (get_or e v 0) e e' 64) {sunk : Bool} (U : Under lower e' 64 sunk) where
         -- column v is pushed
-        pub step_pushed : {r : ℕ} → sunk ≡ 0 → Stop keys lower upper c r → Stepped keys lower upper c v e seen e' links' (set seen v (get_or e v 0)) r
-        step_pushed z T = record {
-          on = λ _. going_on (pushed_state G.state hv P (U.none z)) P.links_long (no_rise G.state hv P) (own_kept G.state hv P) (λ w _. still_kept G.state hv P w);
-          less = λ _. record { done = inl (omega (arith, seen_less, P.less)) };
-          links_long = P.links_long;
-          stop = T;
+        pub step_pushed : sunk ≡ false → Stepped keys lower upper c v e seen e' (set seen v (get_or e v 0))
+        step_pushed z = record {
+          on = going_on (pushed_state G.state hv P (U.none z)) (no_rise G.state hv P) (own_kept G.state hv P) (λ w _. still_kept G.state hv P w);
+          less = record { done = inl (omega (arith, seen_less, P.less)) };
         }
 
+        -- and a test says what it may
+        pub step_tested : sunk ≡ false → (r : Result (Unit {0}) NoLags) → OnOk r (Stepped keys lower upper c v e seen e' (set seen v (get_or e v 0)))
+        step_tested z (Ok _) = step_pushed z
+        step_tested z (Err _) = tt
+
         -- and a block has sunk
-        pub sinking : (sunk ≡ 0 → ⊥) → Sinking keys lower upper c e'
-        sinking n =
-            let s = U.some (omega arith) in
+        pub sinking : sunk ≡ true → Sinking keys lower upper c e'
+        sinking z =
+            let s = U.one z in
             record { fit = G.state.fit; e_long = P.e_long; most = pushed_below G.state hv P; block = s.0; inside = s.1; under = s.2 }
 
-        pub step_sunk : {r : ℕ} → 0 < r → Stop keys lower upper c r → Stepped keys lower upper c v e seen e' links' (set seen v (get_or e v 0)) r
-        step_sunk p T = record { on = λ z. absurd (omega (arith, z)); less = λ z. absurd (omega (arith, z)); links_long = P.links_long; stop = T }
-
-  -- ---- one round
-  pub round_start : Rounded keys lower upper c 0 e seen e links seen 0
-  round_start = record {
-    on = λ _. G;
-    less = λ _. record { done = inr (refl, refl, λ w h. absurd (omega (arith, h))) };
-    links_long = G.links_long;
-    stop = says_nothing keys lower upper c;
-  }
-
-module _ {keys lower upper : List ℕ} {c : ℕ} {e seen e₁ links₁ seen₁ : List ℕ} {v : ℕ} (R : Rounded keys lower upper c v e seen e₁ links₁ seen₁ 0) where
-  pub round_going : Going keys lower upper c e₁ links₁ seen₁
-  round_going = R.on refl
-
-  module _ {e₂ links₂ seen₂ : List ℕ} {r : ℕ} (T : Stepped keys lower upper c v e₁ seen₁ e₂ links₂ seen₂ r) where
-    pub round_more : r ≡ 0 → Rounded keys lower upper c (v + 1) e seen e₂ links₂ seen₂ 0
-    round_more z = record {
-      on = λ _. T.on z;
-      less = λ _. record { done = go (R.less refl).done (T.less z).done };
-      links_long = T.links_long;
-      stop = says_nothing keys lower upper c;
-    }
-      where
-        go : (work e₁ seen₁ < work e seen) ⊎ ((e₁ ≡ e) × (seen₁ ≡ seen) × ((w : ℕ) → w < v → get_or e w 0 ≡ get_or seen w 0))
-            → (work e₂ seen₂ < work e₁ seen₁) ⊎ ((e₂ ≡ e₁) × (seen₂ ≡ seen₁) × (get_or e₁ v 0 ≡ get_or seen₁ v 0))
-            → (work e₂ seen₂ < work e seen) ⊎ ((e₂ ≡ e) × (seen₂ ≡ seen) × ((w : ℕ) → w < v + 1 → get_or e w 0 ≡ get_or seen w 0))
-        go (inl a) (inl b) = inl (omega arith)
-        go (inl a) (inr b) = inl (rw (b.0, b.1) a)
-        go (inr a) (inl b) = inl (rw (← a.0, ← a.1) b)
-        go (inr a) (inr b) =
-            inr (b.0 ∙ a.0, b.1 ∙ a.1, below_more (λ (w : ℕ). get_or e w 0 ≡ get_or seen w 0) v a.2 (rw (a.0, a.1) at b.2))
-
-    pub round_stop : (r ≡ 0 → ⊥) → Rounded keys lower upper c 64 e seen e₂ links₂ seen₂ r
-    round_stop n = record { on = λ z. absurd (n z); less = λ z. absurd (n z); links_long = T.links_long; stop = T.stop }
-
-  pub round_end : 64 ≤ v → v ≤ 64 → Rounded keys lower upper c 64 e seen e₁ links₁ seen₁ 0
-  round_end le ge = let q : v ≡ 64 = omega arith in rw (← q) R
-
--- a round where some block has moved leaves less work
-pub round_less : {keys lower upper : List ℕ} {c : ℕ} {e seen e' links' seen' : List ℕ} {r left : ℕ} → Left e seen 64 left → (left ≡ 0 → ⊥)
-    → Rounded keys lower upper c 64 e seen e' links' seen' r → r ≡ 0 → work e' seen' < work e seen
-round_less {e = e} {seen} {e'} {seen' = seen'} L n R z = go (R.less z).done
-  where
-    go : (work e' seen' < work e seen) ⊎ ((e' ≡ e) × (seen' ≡ seen) × ((w : ℕ) → w < 64 → get_or e w 0 ≡ get_or seen w 0)) → work e' seen' < work e seen
-    go (inl a) = a
-    go (inr a) = let s = L.some (omega arith) in absurd (s.2 (a.2 s.0 s.1))
-
 -- ---- the rounds: all blocks count as moved at first, none at the end
-pub going_start : {keys lower upper : List ℕ} {c c0 : ℕ} {e links : List ℕ} → State keys lower upper c0 e → c ≤ c0 → c < 1048576 → length links ≡ 64 → Going keys lower upper c e links (replicate 64 40000)
-going_start {e = e} S le hc ll =
+pub going_start : {keys lower upper : List ℕ} {c : ℕ} {e : List ℕ} → State keys lower upper c e → c < 1048576 → Going keys lower upper c e (replicate 64 40000)
+going_start {e = e} S hc =
     let far : (w : ℕ) → w < 64 → get_or e w 0 < get_or (replicate 64 40000) w 0 = λ w h. omega (arith, get_or-replicate {A = ℕ} 64 w 40000 0 h, S.high w h, S.fit.high w h) in
     record {
-      state = state_stays le S;
+      state = S;
       c_small = hc;
-      links_long = ll;
       seen_long = length-replicate {A = ℕ} 64 40000;
       above = λ w h. omega (arith, far w h);
       quiet = λ w h z. absurd (omega (arith, far w h, z));
     }
-
-pub settle_rest : {keys lower upper : List ℕ} {c : ℕ} {e links seen : List ℕ} {left : ℕ} → Going keys lower upper c e links seen → Left e seen 64 left → left ≡ 0 → Settled keys lower upper c e links 0
-settle_rest {keys} {lower} {upper} {c} G L z = record {
-  rest = λ _. at_rest G.state (λ w u hw hu. G.quiet w hw (L.none z w hw) u hu);
-  links_long = G.links_long;
-  stop = says_nothing keys lower upper c;
-}
-
-pub settle_none : {keys lower upper : List ℕ} {c : ℕ} {e seen e' links' seen' : List ℕ} {r : ℕ} → Rounded keys lower upper c 64 e seen e' links' seen' r → (r ≡ 0 → ⊥) → Settled keys lower upper c e' links' r
-settle_none R n = record { rest = λ z. absurd (n z); links_long = R.links_long; stop = R.stop }

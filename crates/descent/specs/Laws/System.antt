@@ -1,9 +1,9 @@
 -- Where lags begin, what a shorter period keeps, and when lags are at rest.
 -- Assumes nothing.
-use Rattle.std.specs.Prelude.{ℕ, ◌+◌, ◌<◌, ◌≤◌, refl, List, get_or}
+use Rattle.std.specs.Prelude.{ℕ, ◌+◌, ◌<◌, ◌≤◌, List, get_or}
 use Rattle.std.proofs.Common.{arith}
 use Rattle.descent.specs.System.{slack, Fit, Keeps, Floor}
-use Rattle.descent.specs.State.{State, AtRest, Stop, Stays}
+use Rattle.descent.specs.State.{State, AtRest, Stays}
 
 -- the start, at every period
 pub begun : {keys lower upper : List ℕ} → Fit keys lower upper → (c : ℕ) → State keys lower upper c upper
@@ -26,9 +26,6 @@ floor_none c s h K = absurd (omega (arith, h))
 
 pub floor_next : {keys lower upper : List ℕ} {c : ℕ} → ((s : ℕ → ℕ) → Keeps keys lower upper c s → ⊥) → Floor keys lower upper (c + 1)
 floor_next f d s h K = f s (keeps_longer (omega arith) K)
-
-pub says_nothing : (keys lower upper : List ℕ) (c : ℕ) → Stop keys lower upper c 0
-says_nothing keys lower upper c = record { none = λ n. absurd (n refl) }
 
 -- ---- what lags that keep the rules say in whole numbers
 pub whole : {keys lower upper : List ℕ} {c : ℕ} {s : ℕ → ℕ} → Keeps keys lower upper c s → (a b : ℕ) → a < 64 → b < 64 → s a + 1 ≤ s b + slack keys c a b

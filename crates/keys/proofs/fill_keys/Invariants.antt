@@ -5,7 +5,7 @@ use Rattle.sheet.specs.Laws.Sum.{sum}
 use Rattle.keys.proofs.fill_keys.Given as goal
 
 abbrev pub invariant-loop-versions : goal.invariant-loop-versions
-invariant-loop-versions l = Settling (list_shape l.n l.m l.delays l.from l.to) (held l.registers) l.versions l.seen l.keys
+invariant-loop-versions l = Settling (list_shape l.n l.m l.delays l.from l.to) (held l.registers) l.versions.rows l.versions.seen l.keys
 
 abbrev pub decreases-loop-versions : goal.decreases-loop-versions
 decreases-loop-versions l = sum l.keys

@@ -1,24 +1,12 @@
 -- The loop over the lanes of one wire: its start and its two kinds of turns.
 -- Assumes nothing.
-use Rattle.std.specs.Prelude.{◌≡◌, refl, ◌⊎◌, List, ℕ, ◌+◌, ◌*◌, ◌-◌, ◌≤◌, ◌<◌, length, set}
-use Rattle.std.proofs.Common.{◌∙◌, inl, inr, arith, below_more, length-set, get_or-set_same}
+use Rattle.std.specs.Prelude.{◌≡◌, refl, ◌⊎◌, List, ℕ, ◌+◌, ◌*◌, ◌-◌, ◌≤◌, ◌<◌, set}
+use Rattle.std.proofs.Common.{◌∙◌, inr, arith, below_more, length-set, get_or-set_same}
 use Rattle.std.proofs.lemmas.List.{set-get_or}
 use Rattle.keys.specs.Keys.{entry}
 use Rattle.keys.specs.Filling.{Within, Lanes}
 use Rattle.sheet.specs.Laws.Sum.{sum_set}
 use Rattle.keys.specs.Laws.Entry.{entry_set}
-
-pub lanes_none : (f t plus minus : ℕ) (keys : List ℕ) → length keys ≡ 4096 → Lanes f t plus minus 0 keys keys 0
-lanes_none f t plus minus keys h = record {
-  long = h;
-  few = omega arith;
-  less = omega arith;
-  same = λ _. refl;
-  lowered = λ u l. absurd (omega arith);
-  falls = λ u v hu hv. omega arith;
-  kept = λ u v hu hv. inl refl;
-  ahead = λ u v hu hv _. refl;
-}
 
 -- the numbers of a lane that is not tried yet
 pub lane_room : {f t plus minus i : ℕ} {keys₀ keys : List ℕ} {r : ℕ} → Lanes f t plus minus i keys₀ keys r → Within keys₀ → f < 64 → i < 64 → (10000 ≤ entry keys i f) × (entry keys i f ≤ 2099249152)

@@ -10,7 +10,7 @@ use Rattle.paths.proofs.Delays.{delay_snoc}
 use Rattle.paths.proofs.Way.{Limits}
 use Rattle.paths.proofs.Way.{way_more, way_start}
 use Rattle.keys.specs.Keys.{entry, Loose, Slow, Keyed}
-use Rattle.keys.specs.Filling.{Blank, Within, Lanes, Stand, Stand.way, Stand.far, Stand.sunk, Standing, Holds}
+use Rattle.keys.specs.Filling.{Blank, Lanes, Stand, Stand.way, Stand.far, Stand.sunk, Standing, Holds}
 
 module _ (s : Shape) (w : ℕ → ℕ) where
   -- one wire more
@@ -28,17 +28,6 @@ module _ (s : Shape) (w : ℕ → ℕ) where
   stand_real u v k S (way W D p e) = inr (W, D, p, e)
   stand_real u v k S (far e) = inl (omega arith)
   stand_real u v k S (sunk x ws p e) = inl (omega (arith, S.bound x v ws p, e))
-
-  real_low : (u v k : ℕ) → Slow s w → Loose k ⊎ ((W : ℕ) × (D : ℕ) × Way s w u v W D × (k + D ≡ (W + 1) * 1048576)) → 10000 ≤ k
-  real_low u v k S (inl l) = omega (arith, l)
-  real_low u v k S (inr (W, D, p, e)) = omega (arith, S.bound u v p.wires p.joins, p.registers_is, p.delay_is, e)
-
-  pub standing_within : {keys : List ℕ} → Slow s w → Standing s w keys → Within keys
-  standing_within {keys} S T = record {
-    long = T.long;
-    low = λ u v hu hv. real_low u v (entry keys u v) S (stand_real u v (entry keys u v) S (T.stands u v hu hv));
-    high = T.high;
-  }
 
   -- the table before the first sweep
   pub standing_blank : {delays keys : List ℕ} → s.n ≤ 64 → Blank s.n delays keys → ((b : ℕ) → get_or delays b 0 ≡ s.delay b) → Standing s w keys

@@ -1,38 +1,27 @@
 -- A sweep: its start, a wire met, its end.
 -- Assumes nothing.
-use Rattle.std.specs.Prelude.{◌≡◌, refl, ◌⊎◌, Bool, true, false, List, ℕ, ◌+◌, ◌*◌, ◌-◌, ◌/◌, ◌%◌, ◌≤◌, ◌<◌, length, get_or, set, replicate}
+use Rattle.std.specs.Prelude.{◌≡◌, refl, ◌⊎◌, List, ℕ, ◌+◌, ◌*◌, ◌-◌, ◌/◌, ◌%◌, ◌≤◌, ◌<◌, length, get_or, set, replicate}
 use Rattle.std.proofs.Common.{sym, ap, ◌∙◌, subst, inl, inr, arith, below_more, length-set}
 use Rattle.std.proofs.lemmas.List.{length-replicate, get_or-replicate}
 use Rattle.sheet.specs.Core.{Shape}
-use Rattle.paths.specs.Lists.{held, list_shape, Wires, Delays}
+use Rattle.paths.specs.Lists.{held, list_shape, Wires}
 use Rattle.paths.proofs.Way.{Limits}
 use Rattle.keys.specs.Keys.{entry, Turns}
-use Rattle.keys.specs.Filling.{Blank, Lanes, Counts, spot_at, turn_at, News, Stepped, Stepped.idle, Stepped.tried, Standing, Holds, Settling, Sweeping, Swept}
+use Rattle.keys.specs.declared.order.Direction.{Direction}
+use Rattle.keys.specs.declared.order.Direction.TheVariants.{Forwards, Backwards}
+use Rattle.keys.specs.Filling.{Blank, Lanes, turn_at, Stepped, Stepped.idle, Stepped.tried, Standing, Holds, Settling, Sweeping, Swept}
 use Rattle.sheet.specs.Laws.Sum.{sum}
 use Rattle.keys.specs.Laws.Sum.{sum_most}
 use Rattle.keys.specs.Laws.Entry.{stored, counts_same}
 use Rattle.keys.specs.Laws.Stand.{standing_blank, standing_tried}
 
--- the numbers of a wire
-pub wire_room : {n m : ℕ} {delays from to registers : List ℕ} → Wires n m from to registers → Delays n delays → (j : ℕ) → j < m
-    → (get_or from j 0 < 64) × (get_or to j 0 < 64) × (get_or registers j 0 ≤ 2000) × (get_or delays (get_or to j 0) 0 ≤ 10000)
-wire_room {to = to} W D j h =
-    (omega (arith, W.from_block j h, W.few_blocks), omega (arith, W.to_block j h, W.few_blocks), W.few j h, D.small (get_or to j 0) (W.to_block j h))
-
--- a place, as code counts it
-pub spot_last : (k : ℕ) (back : Bool) (i : ℕ) → i < k → back ≡ true → (k - 1 - i ≡ spot_at k back i) × (k - 1 - i < k)
-spot_last k back i h e = (rw e refl, omega arith)
-
-pub spot_first : (k : ℕ) (back : Bool) (i : ℕ) → i < k → back ≡ false → (i ≡ spot_at k back i) × (i < k)
-spot_first k back i h e = (rw e refl, h)
-
 -- every wire has its place, forwards and backwards
-turn_every : {m : ℕ} {turns : List ℕ} → Turns m turns → (back : Bool) (j : ℕ) → j < m → (p : ℕ) × (p < m) × (turn_at m turns back p ≡ j)
-turn_every {m} {turns} T true j h =
+turn_every : {m : ℕ} {turns : List ℕ} → Turns m turns → (way : Direction) (j : ℕ) → j < m → (p : ℕ) × (p < m) × (turn_at m turns way p ≡ j)
+turn_every {m} {turns} T Backwards j h =
     let y = T.every j h in
     let e : m - 1 - (m - 1 - y.0) ≡ y.0 = omega (arith, y.1) in
     (m - 1 - y.0, omega (arith, y.1), ap (λ (i : ℕ). get_or turns i 0) e ∙ y.2)
-turn_every T false j h = T.every j h
+turn_every T Forwards j h = T.every j h
 
 -- a wire lowers at most one entry for each start block
 pub stepped_few : {f t plus minus j : ℕ} {versions seen keys versions' seen' keys' : List ℕ} {r : ℕ} → Stepped f t plus minus j versions seen keys versions' seen' keys' r → r ≤ 64
@@ -43,22 +32,7 @@ stepped_less : {f t plus minus j : ℕ} {versions seen keys versions' seen' keys
 stepped_less (idle z _ _ ek _) = rw (z, ek) (omega arith)
 stepped_less (tried _ _ L) = L.less
 
--- the two ends of a meeting, as code comes to them
-pub no_news : {f t plus minus j : ℕ} {versions seen keys seen' : List ℕ} {b : Bool} → News f j versions seen seen' b → b ≡ false → Stepped f t plus minus j versions seen keys versions seen' keys 0
-no_news {f} {j = j} {versions} {seen} {seen' = seen'} N e = let h = subst (News f j versions seen seen') e N in idle refl refl h.0 refl h.1
-
-pub had_news : {f t plus minus j : ℕ} {versions seen keys seen' keys' : List ℕ} {b : Bool} {r : ℕ} → News f j versions seen seen' b → b ≡ true → Lanes f t plus minus 64 keys keys' r
-    → Stepped f t plus minus j versions seen keys (set versions t (get_or versions t 0 + r)) seen' keys' r
-had_news {f} {j = j} {versions} {seen} {seen' = seen'} N e L = tried refl (subst (News f j versions seen seen') e N) L
-
 module _ {s : Shape} {w : ℕ → ℕ} where
-  -- versions stay far below 2^64
-  pub settling_counts : {versions seen keys : List ℕ} → Settling s w versions seen keys → Counts 64 8598524526593 versions
-  settling_counts X = record { long = X.long; few = λ b. omega (arith, X.room b) }
-
-  pub sweep_none : (turn : ℕ → ℕ) {versions seen keys : List ℕ} → Settling s w versions seen keys → Sweeping s w turn keys 0 versions seen keys 0
-  sweep_none turn X = record { settling = X; few = omega arith; less = omega arith; met = λ _ q h. absurd (omega arith) }
-
   module _ (g : Limits s w) (narrow : s.n ≤ 64) (few_wires : s.m ≤ 256) (j : ℕ) (hj : j < s.m) {versions seen keys versions' seen' keys' : List ℕ} {r : ℕ}
       (X : Settling s w versions seen keys) where
     -- the wire was tried
@@ -130,12 +104,12 @@ module _ {s : Shape} {w : ℕ → ℕ} where
         rw y.0 (below_more (λ (q : ℕ). Holds s w keys (turn q)) p (X.met (omega (arith, z))) (rw (← is) y.1));
   }
 
-  pub sweep_ends : {turns : List ℕ} (back : Bool) {first versions seen keys : List ℕ} {p changed : ℕ} → Turns s.m turns → s.m ≤ p → p ≤ s.m
-      → Sweeping s w (turn_at s.m turns back) first p versions seen keys changed → Swept s w first versions seen keys changed
-  sweep_ends {turns} back {keys = keys} T h1 h2 X = record {
+  pub sweep_ends : {turns : List ℕ} (way : Direction) {first versions seen keys : List ℕ} {p changed : ℕ} → Turns s.m turns → s.m ≤ p → p ≤ s.m
+      → Sweeping s w (turn_at s.m turns way) first p versions seen keys changed → Swept s w first versions seen keys changed
+  sweep_ends {turns} way {keys = keys} T h1 h2 X = record {
     settling = X.settling;
     less = X.less;
-    ended = λ z j hj. let y = turn_every T back j hj in subst (Holds s w keys) y.2 (X.met z y.0 (omega (arith, y.1)));
+    ended = λ z j hj. let y = turn_every T way j hj in subst (Holds s w keys) y.2 (X.met z y.0 (omega (arith, y.1)));
   }
 
 -- before the first sweep no wire has seen its start's row

@@ -1,12 +1,9 @@
-use Prim.Native.Nat.{ℕ, ◌-◌, ◌<◌, ◌≤◌}
-use mathlib.Core.Path.{◌≡◌}
-use lib.ListN.{length}
-use Rattle.descent.specs.State.{AtRest}
+use Prim.Native.Nat.{◌-◌, ◌≤◌}
 use Rattle.descent.specs.Laws.Reach.{Searched}
 use Rattle.descent.proofs.least.least.Given as goal
 
 abbrev pub invariant-loop-low : goal.invariant-loop-low
-invariant-loop-low l = (l.high < 1048576) × (l.failed ≤ l.low) × (length l.links ≡ 64) × ((c0 : ℕ) → AtRest l.keys l.lower l.upper c0 l.initial.e → c0 < 1048576 → Searched l.keys l.lower l.upper c0 l.low l.high l.e)
+invariant-loop-low g l = (l.failed ≤ l.low) × Searched l.rules.keys.now l.rules.lower.now l.rules.upper.now g.c l.low l.high l.descent.lags
 
 abbrev pub decreases-loop-low : goal.decreases-loop-low
-decreases-loop-low l = l.high - l.low
+decreases-loop-low g l = l.high - l.low
