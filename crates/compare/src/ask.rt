@@ -42,9 +42,10 @@ fn move_by(out: &mut Out, asked: &Record) {
     out.kept(kept(&moved, count));
 }
 
+// The head alone, which has the answer to a loop check.
 fn check_loop(out: &mut Out, asked: &Record) {
     let words = given::<u16>(asked.more);
-    let answer = loops::check_loop(asked.sheet, asked.c, &words[..asked.a]);
+    let answer = loops::check_loop(asked.sheet, asked.period, &words[..asked.a]);
     out.head(asked.question as u32, answer);
 }
 

@@ -3,6 +3,7 @@ use crate::ask::ask;
 use crate::record::{BadRecord, split_record};
 use records::out::Out;
 
+// Asks all of them, and writes a line in place of a damaged one.
 pub fn run(cases: &[u8]) {
     let mut out = Out::new();
     let mut rest = cases;

@@ -1,7 +1,9 @@
 // The records of a case file: which question each asks, what of and what it lends. second/README.md has the format.
 ghost use Rattle.std.specs.Prelude.{◌≤◌, ◌<◌, IfOk, length};
+ghost use Rattle.records.specs.declared.lent.TheConstants.{LONGEST};
 ghost use Rattle.compare.specs.Question.{Decodes};
 
+use records::lent::LONGEST;
 use sheet::bytes::{u16_at, u32_at};
 
 // The seven questions, by the codes that a record and the line of an answer have for them.
@@ -39,7 +41,7 @@ impl TryFrom<u32> for Question {
     }
 }
 
-// The question, the sheet, the bytes after it, the lengths a and b of the lists, and the period c.
+// What a record asks: its question, the sheet, the bytes after it, the lengths a and b of the lists, and the period.
 #[derive(Clone, Copy)]
 pub struct Record<'a> {
     pub question: Question,
@@ -47,13 +49,13 @@ pub struct Record<'a> {
     pub more: &'a [u8],
     pub a: usize,
     pub b: usize,
-    pub c: u32,
-    ghost lists: { (a ≤ 4300) × (b ≤ 4300) },
+    pub period: u32,
+    ghost lists: { (a ≤ LONGEST) × (b ≤ LONGEST) },
 }
 
 // The bytes after the sheet: a move has its a lags there and a loop check its a words.
 fn after(question: Question, a: usize) -> usize
-    requires { a ≤ 4300 }
+    requires { a ≤ LONGEST }
 {
     match question {
         Question::Move | Question::Loop => 2 * a,
@@ -69,7 +71,7 @@ pub fn split_record(bytes: &[u8]) -> Result<(Record<'_>, &[u8]), BadRecord>
     let question = Question::try_from(u16_at(head, 0))?;
     let a = u16_at(head, 4) as usize;
     let b = u16_at(head, 6) as usize;
-    if a > 4300 || b > 4300 {
+    if a > LONGEST || b > LONGEST {
         return Err(BadRecord);
     }
     let length = u16_at(head, 2) as usize;
@@ -81,7 +83,7 @@ pub fn split_record(bytes: &[u8]) -> Result<(Record<'_>, &[u8]), BadRecord>
         more,
         a,
         b,
-        c: u32_at(head, 8),
+        period: u32_at(head, 8),
     };
     Ok((record, rest))
 }

@@ -1,18 +1,16 @@
 // The two lag questions: the lines with their answers, and whether the loop that comes with 10 or 11 proves it.
-ghost use Rattle.std.specs.Prelude.{◌≡◌, length};
-
 use crate::record::Record;
 use records::answers::value_of;
 use records::given::blocks;
-use records::lent::{kept, marked};
+use records::lent::{LONGEST, kept, marked};
 use records::out::Out;
 use sheet::answer::Answer;
 
 // The two lists that a lag question is lent.
 #[derive(Drop)]
 struct Loan {
-    lags: [i16; 4300],
-    words: [u16; 4300],
+    lags: [i16; LONGEST],
+    words: [u16; LONGEST],
 }
 
 impl Loan {
@@ -29,26 +27,26 @@ impl Loan {
     }
 }
 
-// Whether the loop check says yes.
-fn accepted(sheet: &[u8], c: u32, words: &[u16]) -> bool {
-    value_of(loops::check_loop(sheet, c, words)).is_ok()
+// Whether the loop check says yes at this period.
+fn accepted(sheet: &[u8], period: u32, words: &[u16]) -> bool {
+    value_of(loops::check_loop(sheet, period, words)).is_ok()
 }
 
 // With 11 at the period asked for. With 10 at the least and the largest: at the largest no path is slow enough.
-fn proved(sheet: &[u8], number: u32, c: u32, words: &[u16]) -> bool {
+fn proved(sheet: &[u8], number: u32, period: u32, words: &[u16]) -> bool {
     if number == 11 {
-        accepted(sheet, c, words)
+        accepted(sheet, period, words)
     } else {
         accepted(sheet, 0, words) && accepted(sheet, u32::MAX, words)
     }
 }
 
 // The lines of an answer with a loop: its word count is not written, since which loop is free.
-fn loop_lines(out: &mut Out, asked: &Record, c: u32, answer: Answer, loan: &Loan) {
+fn loop_lines(out: &mut Out, asked: &Record, period: u32, answer: Answer, loan: &Loan) {
     let count = answer.value as usize;
     out.short_head(asked.question as u32, answer);
     let yes = match loan.words.get(..count) {
-        Some(words) => proved(asked.sheet, answer.number, c, words),
+        Some(words) => proved(asked.sheet, answer.number, period, words),
         None => false,
     };
     out.text(if yes { b"loop yes\n" } else { b"loop no\n" });
@@ -70,7 +68,7 @@ fn lag_lines(out: &mut Out, asked: &Record, answer: Answer, loan: &Loan) {
 fn lags_by<F: FnOnce(&mut [i16], &mut [u16]) -> Answer>(
     out: &mut Out,
     asked: &Record,
-    c: u32,
+    period: u32,
     question: F,
 )
     requires { F.IsAlwaysCallable question }
@@ -78,15 +76,15 @@ fn lags_by<F: FnOnce(&mut [i16], &mut [u16]) -> Answer>(
     let mut loan = Loan::new();
     let answer = question(&mut loan.lags[..asked.a], &mut loan.words[..asked.b]);
     if matches!(answer.number, 10 | 11) {
-        loop_lines(out, asked, c, answer, &loan);
+        loop_lines(out, asked, period, answer, &loan);
     } else {
         lag_lines(out, asked, answer, &loan);
     }
 }
 
 pub fn lags_at(out: &mut Out, asked: &Record) {
-    lags_by(out, asked, asked.c, |lags, words| {
-        periods::lags_at(asked.sheet, asked.c, lags, words)
+    lags_by(out, asked, asked.period, |lags, words| {
+        periods::lags_at(asked.sheet, asked.period, lags, words)
     });
 }
 

@@ -3,6 +3,7 @@ ghost use Rattle.std.specs.Prelude.{◌≡◌, ◌+◌, ◌*◌, ◌<◌, List, 
 ghost use Rattle.sheet.specs.Bytes.{i16_at, u16_at};
 ghost use Rattle.records.specs.Given.{GivenBy};
 
+use crate::lent::LONGEST;
 use sheet::bytes::{excess_at, u16_at};
 use sheet::lag::lag_of;
 
@@ -32,10 +33,10 @@ impl TwoBytes for i16 {
 }
 
 // As long as the longest list; entries that the record has not are 0 and never lent.
-pub fn given<T: TwoBytes>(more: &[u8]) -> [T; 4300]
-    ensures { (length result ≡ 4300) × GivenBy T.at more.now result }
+pub fn given<T: TwoBytes>(more: &[u8]) -> [T; LONGEST]
+    ensures { (length result ≡ LONGEST) × GivenBy T.at more.now result }
 {
-    let mut list = [T::default(); 4300];
+    let mut list = [T::default(); LONGEST];
     for k in 0..list.len().min(more.len() / 2) {
         list[k] = T::read(more, 2 * k);
     }

@@ -5,14 +5,15 @@ ghost use Rattle.std.specs.Cmp.{signed_Decides, unsigned_Decides};
 ghost use Rattle.sheet.specs.Rules.{Told};
 ghost use Rattle.records.specs.Lent.{AsBefore, KeptFrom, byte_before, entry_before, lag_before, word_before};
 
-use sheet::lag::lag_of;
+// As many entries as the longest list has that a record lends or gives.
+pub const LONGEST: usize = 4300;
 
 // What the entries of a lent list are: entry i holds `before(i)` before a call, so that one that was written shows.
 pub trait Lent: Copy + PartialEq {
     ghost before: { ℕ → Self };
 
     fn before(i: usize) -> Self
-        requires { i < 4300 }
+        requires { i < LONGEST }
         ensures { result ≡ before i };
 
     // Entries that are equal are the same.
@@ -64,24 +65,24 @@ impl Lent for i16 {
 }
 
 // A list to lend, made anew for every call.
-pub fn marked<T: Lent>() -> [T; 4300]
-    ensures { (length result ≡ 4300) × KeptFrom T.before 0 result }
+pub fn marked<T: Lent>() -> [T; LONGEST]
+    ensures { (length result ≡ LONGEST) × KeptFrom T.before 0 result }
 {
     std::array::from_fn(
         |i| -> T
-            requires { i < 4300 }
+            requires { i < LONGEST }
             ensures { result ≡ T.before i }
         { T::before(i) },
     )
 }
 
 // Every entry from `first` on still holds what it held before the call.
-pub fn kept<T: Lent>(list: &[T; 4300], first: usize) -> bool
+pub fn kept<T: Lent>(list: &[T; LONGEST], first: usize) -> bool
     ensures { Told (KeptFrom T.before first list.now) result }
 {
-    (first..4300).all(
+    (first..LONGEST).all(
         |i| -> bool
-            requires { (i < 4300) × (length list.now ≡ 4300) }
+            requires { (i < LONGEST) × (length list.now ≡ LONGEST) }
             ensures { Told (AsBefore T.before list.entry.now i) result }
         { list[i] == T::before(i) },
     )

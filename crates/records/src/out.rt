@@ -12,6 +12,7 @@ pub struct Out {
 }
 
 impl Out {
+    // Nothing gathered yet.
     pub fn new() -> Self {
         Out {
             bytes: [0; 4096],
@@ -19,6 +20,7 @@ impl Out {
         }
     }
 
+    // One more byte: where the buffer is full, what is in it is written first.
     pub fn byte(&mut self, x: u8) {
         if self.used == 4096 {
             io::write_all(1, &self.bytes);
@@ -28,12 +30,14 @@ impl Out {
         self.used += 1;
     }
 
+    // The bytes of a text, as they are.
     pub fn text(&mut self, line: &[u8]) {
         for x in line {
             self.byte(*x);
         }
     }
 
+    // A number by its decimal digits.
     pub fn number(&mut self, x: u32) {
         let mut digits = [0u8; 20];
         let k = io::decimal(x as u64, &mut digits);
@@ -46,7 +50,7 @@ impl Out {
         x.write(self);
     }
 
-    // Each entry, and the end of the line.
+    // A space and the entry for each, and the end of the line.
     pub fn rest<T: Entry>(&mut self, entries: &[T]) {
         for x in entries {
             self.next(*x);
@@ -88,7 +92,7 @@ impl Out {
     }
 }
 
-// What a line can hold after a space.
+// What a line can hold after a space: the entry by its digits, a lag with its sign.
 pub trait Entry: Copy {
     fn write(self, out: &mut Out);
 }

@@ -9,22 +9,23 @@ use Rattle.sheet.specs.Lag.{excess, lag_of}
 use Rattle.sheet.specs.Laws.Lag.{excess_lag, lag_excess}
 use Rattle.sheet.specs.Rules.{Told}
 use Rattle.records.specs.Lent.{AsBefore, KeptFrom, LagsKeptFrom, lag_before, excess_before}
+use Rattle.records.specs.declared.lent.TheConstants.{LONGEST}
 
 module _ {A : Type 0} (before : ℕ → A) (l : List A) where
   -- every number from `first` on was tried, or one was found where the entry is another
-  pub kept_by_range : (first : ℕ) (r : Bool) → MatchBool r (AllWithin (AsBefore before l) (range_with_len first (4300 - first)) 0 (length (range_with_len first (4300 - first)))) ((k : ℕ) × (k < length (range_with_len first (4300 - first))) × HoldsAt (λ i. AsBefore before l i → ⊥) (range_with_len first (4300 - first)) k) → Told (KeptFrom before first l) r
-  kept_by_range first true all = λ k f b. subst (AsBefore before l) (get_or-range_with_len first (4300 - first) (k - first) 0 (omega arith) ∙ omega arith) (all (k - first) 0 (omega arith) (omega (arith, length-range_with_len first (4300 - first))))
-  kept_by_range first false (k, within, other) = λ kept. subst (λ i. AsBefore before l i → ⊥) (get_or-range_with_len first (4300 - first) k 0 (omega (arith, length-range_with_len first (4300 - first)))) (other 0) (kept (first + k) (omega arith) (omega (arith, length-range_with_len first (4300 - first))))
+  pub kept_by_range : (first : ℕ) (r : Bool) → MatchBool r (AllWithin (AsBefore before l) (range_with_len first (LONGEST - first)) 0 (length (range_with_len first (LONGEST - first)))) ((k : ℕ) × (k < length (range_with_len first (LONGEST - first))) × HoldsAt (λ i. AsBefore before l i → ⊥) (range_with_len first (LONGEST - first)) k) → Told (KeptFrom before first l) r
+  kept_by_range first true all = λ k f b. subst (AsBefore before l) (get_or-range_with_len first (LONGEST - first) (k - first) 0 (omega arith) ∙ omega arith) (all (k - first) 0 (omega arith) (omega (arith, length-range_with_len first (LONGEST - first))))
+  kept_by_range first false (k, within, other) = λ kept. subst (λ i. AsBefore before l i → ⊥) (get_or-range_with_len first (LONGEST - first) k 0 (omega (arith, length-range_with_len first (LONGEST - first)))) (other 0) (kept (first + k) (omega arith) (omega (arith, length-range_with_len first (LONGEST - first))))
 
 -- ---- lags by their excess numbers, in which code holds them elsewhere
-small_before : (z : ℤ) (k : ℕ) → k < 4300 → excess z ≡ excess_before k → mag z < 32768
+small_before : (z : ℤ) (k : ℕ) → k < LONGEST → excess z ≡ excess_before k → mag z < 32768
 small_before (pos j) k few e = omega arith
 small_before (negsuc j) k few e = absurd (omega arith)
 
-lag_is_before : (z : ℤ) (k : ℕ) → k < 4300 → excess z ≡ excess_before k → z ≡ lag_before k
+lag_is_before : (z : ℤ) (k : ℕ) → k < LONGEST → excess z ≡ excess_before k → z ≡ lag_before k
 lag_is_before z k few e = sym (lag_excess z (small_before z k few e)) ∙ ap lag_of e
 
-pub lags_kept : (first : ℕ) (l : List ℤ) → length l ≡ 4300 → KeptFrom lag_before first l ↔ LagsKeptFrom first l
+pub lags_kept : (first : ℕ) (l : List ℤ) → length l ≡ LONGEST → KeptFrom lag_before first l ↔ LagsKeptFrom first l
 lags_kept first l long = (
   λ h k f few. ap excess (h k f few (pos 0)) ∙ excess_lag (excess_before k) (omega arith),
   λ h k f few past. get_or_default l k past (pos 0) (omega arith) ∙ lag_is_before (get_or l k (pos 0)) k few (h k f few),

@@ -1,5 +1,5 @@
 -- The moved sheet has the header of the sheet, and room for all its wires.
-use native.Mathlib.Omega.{arith}
+use Rattle.std.proofs.Common.{arith, rules}
 use mathlib.Core.Path.{◌≡◌}
 use mathlib.Core.List.{List}
 use Prim.Native.Nat.{ℕ, ◌+◌, ◌*◌, ◌<◌, ◌≤◌}
@@ -41,8 +41,4 @@ placed s lags l t a n m h z k f =
 pub invariant_of-note : goal.invariant_of-note
 invariant_of-note c =
     let p = placed c.args.sheet.now c.best.new.lags (replicate 2576 0) _ c.move_by.result _ _ c.move_by.ensures c.in_ok-value_of.ensures.done.0 (length-replicate {A = ℕ} 2576 0) (frame_read c.args.sheet.now c.read_frame.result _ _ c.read_frame.ensures c.in-Counts.is) in
-    let long = length-take-le c.in-Counts.n c.best.new.lags (omega arith) in record {
-      few = (omega arith, p.1);
-      blocks = (omega arith, omega arith);
-      whole = (omega arith, omega arith);
-    }
+    let long = length-take-le c.in-Counts.n c.best.new.lags (omega arith) in search rules
