@@ -1,5 +1,5 @@
 -- What a test of each entry says of a lent list, and a lent list of lags by its excess numbers.
-use Rattle.std.specs.Prelude.{◌≡◌, Bool, true, false, List, ℕ, ◌+◌, ◌-◌, ◌<◌, ◌↔◌, length, get_or, ℤ, pos, negsuc, MatchBool}
+use Rattle.std.specs.Prelude.{◌≡◌, Bool, true, false, List, ℕ, ◌+◌, ◌-◌, ◌<◌, ◌≤◌, ◌↔◌, length, get_or, ℤ, pos, negsuc, MatchBool}
 use Rattle.std.specs.List.{AllWithin, HoldsAt, range_with_len}
 use Rattle.std.proofs.Common.{◌∙◌, ap, sym, subst, arith}
 use Rattle.std.proofs.lemmas.List.FromFn.{get_or-range_with_len, length-range_with_len}
@@ -17,6 +17,10 @@ module _ {A : Type 0} (before : ℕ → A) (l : List A) where
   kept_by_range first true all = λ k f b. subst (AsBefore before l) (get_or-range_with_len first (LONGEST - first) (k - first) 0 (omega arith) ∙ omega arith) (all (k - first) 0 (omega arith) (omega (arith, length-range_with_len first (LONGEST - first))))
   kept_by_range first false (k, within, other) = λ kept. subst (λ i. AsBefore before l i → ⊥) (get_or-range_with_len first (LONGEST - first) k 0 (omega (arith, length-range_with_len first (LONGEST - first)))) (other 0) (kept (first + k) (omega arith) (omega (arith, length-range_with_len first (LONGEST - first))))
 
+  -- in a list as long as the longest it is the same whatever a read past the end gives
+  pub kept_as_read : (first : ℕ) (past : A) → length l ≡ LONGEST → KeptFrom before first l ↔ ((k : ℕ) → first ≤ k → k < LONGEST → get_or l k past ≡ before k)
+  kept_as_read first past long = (λ h k f few. h k f few past, λ h k f few other. get_or_default l k other past (omega arith) ∙ h k f few)
+
 -- ---- lags by their excess numbers, in which code holds them elsewhere
 small_before : (z : ℤ) (k : ℕ) → k < LONGEST → excess z ≡ excess_before k → mag z < 32768
 small_before (pos j) k few e = omega arith
@@ -28,5 +32,5 @@ lag_is_before z k few e = sym (lag_excess z (small_before z k few e)) ∙ ap lag
 pub lags_kept : (first : ℕ) (l : List ℤ) → length l ≡ LONGEST → KeptFrom lag_before first l ↔ LagsKeptFrom first l
 lags_kept first l long = (
   λ h k f few. ap excess (h k f few (pos 0)) ∙ excess_lag (excess_before k) (omega arith),
-  λ h k f few past. get_or_default l k past (pos 0) (omega arith) ∙ lag_is_before (get_or l k (pos 0)) k few (h k f few),
+  λ h. (kept_as_read lag_before l first (pos 0) long).1 (λ k f few. lag_is_before (get_or l k (pos 0)) k few (h k f few)),
 )
