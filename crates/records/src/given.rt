@@ -1,6 +1,7 @@
 // What a record gives: how many blocks its sheet names, and after the sheet lags for a move or words for a loop check.
-ghost use Rattle.std.specs.Prelude.{◌≡◌, ◌+◌, ◌*◌, ◌<◌, List, ℕ, length};
+ghost use Rattle.std.specs.Prelude.{◌≡◌, ◌+◌, ◌*◌, ◌<◌, ◌≤◌, List, ℕ, length};
 ghost use Rattle.sheet.specs.Bytes.{i16_at, u16_at};
+ghost use Rattle.sheet.specs.Core.{blocks_in};
 ghost use Rattle.records.specs.Given.{GivenBy};
 
 use crate::lent::LONGEST;
@@ -45,7 +46,9 @@ pub fn given<T: TwoBytes>(more: &[u8]) -> [T; LONGEST]
 
 // The blocks that the sheet's first two bytes name; 0 where it is shorter.
 pub fn blocks(sheet: &[u8]) -> usize
-    ensures { result < 65536 }
+    ensures bound { result < 65536 }
+    ensures named { 2 ≤ length sheet.now → result ≡ blocks_in sheet.now }
+    ensures short { length sheet.now < 2 → result ≡ 0 }
 {
     if sheet.len() < 2 {
         return 0;
