@@ -1,3 +1,4 @@
+-- Each call gave its entry.
 use Rattle.std.proofs.Common.{rules}
 use Rattle.records.proofs.lent.marked.Goals as goal
 
