@@ -3,13 +3,10 @@
 
 mod verdict; // the question, and its line
 
-// One byte more than the longest sheet has, so that longer input is seen to be longer.
-fn space() -> [u8; 2577] {
-    [0; 2577]
-}
+use records::input::{SHEET, space};
 
 fn main() {
-    let mut buf = space();
+    let mut buf = space::<SHEET>();
     let n = io::read_full(0, &mut buf);
     verdict::tell(&buf[..n]);
 }

@@ -1,143 +1,64 @@
-// The questions: for each a function that asks it and writes its lines, and a branch in `question`.
-ghost use Rattle.std.specs.Prelude.{◌≤◌, length};
-
+// The questions: for each a function that asks it and writes its lines, and an arm in `ask`.
+use crate::record::{Question, Record};
 use crate::solve::{best, lags_at};
-use records::given::{at_most, blocks, lags, words};
-use records::lent::{kept, kept_bytes, marked, marked_bytes};
-use records::out::{bytes, head, kept_line, list};
+use records::answers::value_of;
+use records::given::{blocks, given};
+use records::lent::{kept, marked};
+use records::out::Out;
 
-fn check(out: &mut [u8; 4096], used: &mut usize, sheet: &[u8]) {
-    let answer = paths::check(sheet);
-    head(out, used, 1, answer);
+// After the head the table where there is one, and whether the rest of both lists was kept.
+fn table(out: &mut Out, asked: &Record) {
+    let mut registers = marked::<u32>();
+    let mut delays = marked::<u32>();
+    let answer = tables::path_table(
+        asked.sheet,
+        &mut registers[..asked.a],
+        &mut delays[..asked.b],
+    );
+    out.head(asked.question as u32, answer);
+    let mut r = 0;
+    let mut d = 0;
+    if value_of(answer).is_ok() {
+        let n = blocks(asked.sheet);
+        r = (n * n).min(asked.a);
+        d = (n * n).min(asked.b);
+        out.list(b"registers", &registers[..r]);
+        out.list(b"delays", &delays[..d]);
+    }
+    out.kept(kept(&registers, r) && kept(&delays, d));
 }
 
-fn period(out: &mut [u8; 4096], used: &mut usize, sheet: &[u8]) {
-    let answer = periods::period(sheet);
-    head(out, used, 2, answer);
+// After the head the moved sheet where there is one, and whether the rest was kept. A moved sheet takes as many bytes as the sheet.
+fn move_by(out: &mut Out, asked: &Record) {
+    let lags = given::<i16>(asked.more);
+    let mut moved = marked::<u8>();
+    let answer = moves::move_by(asked.sheet, &lags[..asked.a], &mut moved[..asked.b]);
+    out.head(asked.question as u32, answer);
+    let mut count = 0;
+    if value_of(answer).is_ok() {
+        count = asked.sheet.len().min(asked.b);
+        out.list(b"moved", &moved[..count]);
+    }
+    out.kept(kept(&moved, count));
 }
 
-// Whether both lists, from r and d on, are what they were before the call.
-fn both_kept(registers: &[u32; 4300], delays: &[u32; 4300], r: usize, d: usize) -> bool {
-    if kept(registers, r) {
-        return kept(delays, d);
-    }
-    false
+// The head alone, which has the answer to a loop check.
+fn check_loop(out: &mut Out, asked: &Record) {
+    let words = given::<u16>(asked.more);
+    let answer = loops::check_loop(asked.sheet, asked.period, &words[..asked.a]);
+    out.head(asked.question as u32, answer);
 }
 
-// The lines after the head: a table where there is one, and whether the rest was kept.
-fn table_lines(
-    out: &mut [u8; 4096],
-    used: &mut usize,
-    registers: &[u32; 4300],
-    delays: &[u32; 4300],
-    r: usize,
-    d: usize,
-    refused: bool,
-)
-    requires { (r ≤ 4300) × (d ≤ 4300) }
-{
-    if refused {
-        kept_line(out, used, both_kept(registers, delays, 0, 0));
-        return;
+// Asks the question of a record, and writes what it answers and leaves.
+pub fn ask(out: &mut Out, asked: &Record) {
+    let code = asked.question as u32;
+    match asked.question {
+        Question::Check => out.head(code, paths::check(asked.sheet)),
+        Question::Period => out.head(code, periods::period(asked.sheet)),
+        Question::Table => table(out, asked),
+        Question::Move => move_by(out, asked),
+        Question::Lags => lags_at(out, asked),
+        Question::Best => best(out, asked),
+        Question::Loop => check_loop(out, asked),
     }
-    list(out, used, b"registers", registers, r);
-    list(out, used, b"delays", delays, d);
-    kept_line(out, used, both_kept(registers, delays, r, d));
-}
-
-fn table(out: &mut [u8; 4096], used: &mut usize, sheet: &[u8], a: usize, b: usize)
-    requires { (a ≤ 4300) × (b ≤ 4300) }
-{
-    let mut registers = marked();
-    let mut delays = marked();
-    let answer = tables::path_table(sheet, &mut registers[..a], &mut delays[..b]);
-    let refused = answer.number != 0;
-    head(out, used, 3, answer);
-    let n = blocks(sheet);
-    let all = n * n;
-    let r = at_most(all, a);
-    let d = at_most(all, b);
-    table_lines(out, used, &registers, &delays, r, d, refused);
-}
-
-// The lines after the head of a move: the moved sheet where there is one, and whether the rest was kept.
-fn moved_lines(
-    out: &mut [u8; 4096],
-    used: &mut usize,
-    moved: &[u8; 4300],
-    count: usize,
-    refused: bool,
-)
-    requires { count ≤ 4300 }
-{
-    let mut first = 0;
-    if !refused {
-        bytes(out, used, b"moved", moved, count);
-        first = count;
-    }
-    kept_line(out, used, kept_bytes(moved, first));
-}
-
-// A moved sheet takes as many bytes as the sheet.
-fn move_by(out: &mut [u8; 4096], used: &mut usize, sheet: &[u8], more: &[u8], a: usize, b: usize)
-    requires { (a ≤ 4300) × (b ≤ 4300) × (length more.now ≤ 8600) }
-{
-    let lags = lags(more);
-    let mut moved = marked_bytes();
-    let answer = moves::move_by(sheet, &lags[..a], &mut moved[..b]);
-    let refused = answer.number != 0;
-    head(out, used, 4, answer);
-    moved_lines(out, used, &moved, at_most(sheet.len(), b), refused);
-}
-
-fn check_loop(out: &mut [u8; 4096], used: &mut usize, sheet: &[u8], more: &[u8], a: usize, c: u32)
-    requires { (a ≤ 4300) × (length more.now ≤ 8600) }
-{
-    let words = words(more);
-    let answer = loops::check_loop(sheet, c, &words[..a]);
-    head(out, used, 7, answer);
-}
-
-// Asks the question with this code: of the sheet, the bytes after it, the lengths a and b and the period c. False where there is none.
-pub fn question(
-    out: &mut [u8; 4096],
-    used: &mut usize,
-    code: u32,
-    sheet: &[u8],
-    more: &[u8],
-    a: usize,
-    b: usize,
-    c: u32,
-) -> bool
-    requires { (a ≤ 4300) × (b ≤ 4300) × (length more.now ≤ 8600) }
-{
-    if code == 1 {
-        check(out, used, sheet);
-        return true;
-    }
-    if code == 2 {
-        period(out, used, sheet);
-        return true;
-    }
-    if code == 3 {
-        table(out, used, sheet, a, b);
-        return true;
-    }
-    if code == 4 {
-        move_by(out, used, sheet, more, a, b);
-        return true;
-    }
-    if code == 5 {
-        lags_at(out, used, sheet, a, b, c);
-        return true;
-    }
-    if code == 6 {
-        best(out, used, sheet, a, b);
-        return true;
-    }
-    if code == 7 {
-        check_loop(out, used, sheet, more, a, c);
-        return true;
-    }
-    false
 }

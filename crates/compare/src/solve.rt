@@ -1,138 +1,95 @@
 // The two lag questions: the lines with their answers, and whether the loop that comes with 10 or 11 proves it.
-ghost use Rattle.std.specs.Prelude.{◌≤◌};
-
-use records::given::{at_most, blocks};
-use records::lent::{kept_lags, kept_words, marked_lags, marked_words};
-use records::out::{head, kept_line, lag_list, short_head, text};
+use crate::record::Record;
+use records::answers::value_of;
+use records::given::blocks;
+use records::lent::{LONGEST, kept, marked};
+use records::out::Out;
 use sheet::answer::Answer;
 
-// Whether the loop check says yes to the first `count` words.
-fn accepted(sheet: &[u8], c: u32, words: &[u16], count: usize) -> bool {
-    if words.len() < count {
-        return false;
+// The two lists that a lag question is lent.
+#[derive(Drop)]
+struct Loan {
+    lags: [i16; LONGEST],
+    words: [u16; LONGEST],
+}
+
+impl Loan {
+    fn new() -> Self {
+        Loan {
+            lags: marked(),
+            words: marked(),
+        }
     }
-    let answer = loops::check_loop(sheet, c, &words[..count]);
-    answer.number == 0
+
+    // Whether the lags and the words from these on are what they were before the call.
+    fn kept(&self, lags: usize, words: usize) -> bool {
+        kept(&self.lags, lags) && kept(&self.words, words)
+    }
+}
+
+// Whether the loop check says yes at this period.
+fn accepted(sheet: &[u8], period: u32, words: &[u16]) -> bool {
+    value_of(loops::check_loop(sheet, period, words)).is_ok()
 }
 
 // With 11 at the period asked for. With 10 at the least and the largest: at the largest no path is slow enough.
-fn proved(sheet: &[u8], number: u32, c: u32, words: &[u16], count: usize) -> bool {
+fn proved(sheet: &[u8], number: u32, period: u32, words: &[u16]) -> bool {
     if number == 11 {
-        return accepted(sheet, c, words, count);
+        accepted(sheet, period, words)
+    } else {
+        accepted(sheet, 0, words) && accepted(sheet, u32::MAX, words)
     }
-    if accepted(sheet, 0, words, count) {
-        return accepted(sheet, 4294967295, words, count);
-    }
-    false
-}
-
-// Whether the lags from `given` on and the words from `count` on are what they were before the call.
-fn both_kept(lags: &[i16; 4300], words: &[u16; 4300], given: usize, count: usize) -> bool {
-    if kept_lags(lags, given) {
-        return kept_words(words, count);
-    }
-    false
-}
-
-fn loop_line(
-    out: &mut [u8; 4096],
-    used: &mut usize,
-    sheet: &[u8],
-    number: u32,
-    c: u32,
-    words: &[u16],
-    count: usize,
-) {
-    if proved(sheet, number, c, words, count) {
-        text(out, used, b"loop yes\n");
-        return;
-    }
-    text(out, used, b"loop no\n");
 }
 
 // The lines of an answer with a loop: its word count is not written, since which loop is free.
-fn loop_lines(
-    out: &mut [u8; 4096],
-    used: &mut usize,
-    code: u32,
-    sheet: &[u8],
-    c: u32,
-    answer: Answer,
-    lags: &[i16; 4300],
-    words: &[u16; 4300],
-) {
-    let number = answer.number;
+fn loop_lines(out: &mut Out, asked: &Record, period: u32, answer: Answer, loan: &Loan) {
     let count = answer.value as usize;
-    short_head(out, used, code, answer);
-    loop_line(out, used, sheet, number, c, words, count);
-    kept_line(out, used, both_kept(lags, words, 0, count));
+    out.short_head(asked.question as u32, answer);
+    let yes = match loan.words.get(..count) {
+        Some(words) => proved(asked.sheet, answer.number, period, words),
+        None => false,
+    };
+    out.text(if yes { b"loop yes\n" } else { b"loop no\n" });
+    out.kept(loan.kept(0, count));
 }
 
 // The lines of any other answer: with 0 its n lags.
-fn lag_lines(
-    out: &mut [u8; 4096],
-    used: &mut usize,
-    code: u32,
-    answer: Answer,
-    lags: &[i16; 4300],
-    words: &[u16; 4300],
-    n: usize,
+fn lag_lines(out: &mut Out, asked: &Record, answer: Answer, loan: &Loan) {
+    out.head(asked.question as u32, answer);
+    let mut n = 0;
+    if value_of(answer).is_ok() {
+        n = blocks(asked.sheet).min(asked.a);
+        out.list(b"lags", &loan.lags[..n]);
+    }
+    out.kept(loan.kept(n, 0));
+}
+
+// Asks for lags by `question`, with the period that a loop with 11 is judged at.
+fn lags_by<F: FnOnce(&mut [i16], &mut [u16]) -> Answer>(
+    out: &mut Out,
+    asked: &Record,
+    period: u32,
+    question: F,
 )
-    requires { n ≤ 4300 }
+    requires { F.IsAlwaysCallable question }
 {
-    let refused = answer.number != 0;
-    head(out, used, code, answer);
-    if refused {
-        kept_line(out, used, both_kept(lags, words, 0, 0));
-        return;
+    let mut loan = Loan::new();
+    let answer = question(&mut loan.lags[..asked.a], &mut loan.words[..asked.b]);
+    if matches!(answer.number, 10 | 11) {
+        loop_lines(out, asked, period, answer, &loan);
+    } else {
+        lag_lines(out, asked, answer, &loan);
     }
-    lag_list(out, used, b"lags", lags, n);
-    kept_line(out, used, both_kept(lags, words, n, 0));
 }
 
-fn has_loop(number: u32) -> bool {
-    if number == 10 {
-        return true;
-    }
-    number == 11
+pub fn lags_at(out: &mut Out, asked: &Record) {
+    lags_by(out, asked, asked.period, |lags, words| {
+        periods::lags_at(asked.sheet, asked.period, lags, words)
+    });
 }
 
-fn answered(
-    out: &mut [u8; 4096],
-    used: &mut usize,
-    code: u32,
-    sheet: &[u8],
-    c: u32,
-    answer: Answer,
-    lags: &[i16; 4300],
-    words: &[u16; 4300],
-    n: usize,
-)
-    requires { n ≤ 4300 }
-{
-    if has_loop(answer.number) {
-        loop_lines(out, used, code, sheet, c, answer, lags, words);
-        return;
-    }
-    lag_lines(out, used, code, answer, lags, words, n);
-}
-
-pub fn lags_at(out: &mut [u8; 4096], used: &mut usize, sheet: &[u8], a: usize, b: usize, c: u32)
-    requires { (a ≤ 4300) × (b ≤ 4300) }
-{
-    let mut lags = marked_lags();
-    let mut words = marked_words();
-    let answer = periods::lags_at(sheet, c, &mut lags[..a], &mut words[..b]);
-    let n = at_most(blocks(sheet), a);
-    answered(out, used, 5, sheet, c, answer, &lags, &words, n);
-}
-
-pub fn best(out: &mut [u8; 4096], used: &mut usize, sheet: &[u8], a: usize, b: usize)
-    requires { (a ≤ 4300) × (b ≤ 4300) }
-{
-    let mut lags = marked_lags();
-    let mut words = marked_words();
-    let answer = periods::best(sheet, &mut lags[..a], &mut words[..b]);
-    let n = at_most(blocks(sheet), a);
-    answered(out, used, 6, sheet, 0, answer, &lags, &words, n);
+pub fn best(out: &mut Out, asked: &Record) {
+    lags_by(out, asked, 0, |lags, words| {
+        periods::best(asked.sheet, lags, words)
+    });
 }

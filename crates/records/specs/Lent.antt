@@ -1,6 +1,7 @@
 -- What a lent list holds where nothing has been written since before the call.
 use Rattle.std.specs.Prelude.{◌≡◌, List, ℕ, ◌+◌, ◌*◌, ◌%◌, ◌<◌, ◌≤◌, get_or, ℤ, pos}
-use Rattle.sheet.specs.Lag.{excess}
+use Rattle.sheet.specs.Lag.{excess, lag_of}
+use Rattle.records.specs.declared.lent.TheConstants.{LONGEST}
 
 -- Entry k of a lent list of u32: no table has a number as large.
 abbrev pub entry_before : ℕ → ℕ
@@ -18,8 +19,16 @@ word_before k = 50000 + k
 abbrev pub excess_before : ℕ → ℕ
 excess_before k = 52768 + k
 
-abbrev pub KeptFrom : (ℕ → ℕ) → ℕ → List ℕ → Type 0
-KeptFrom before first l = (k : ℕ) → first ≤ k → k < 4300 → get_or l k 0 ≡ before k
+-- the lag itself
+abbrev pub lag_before : ℕ → ℤ
+lag_before k = lag_of (excess_before k)
+
+-- entry k is what it was before the call, whatever is read past the end of the list
+abbrev pub AsBefore : {A : Type 0} → (ℕ → A) → List A → ℕ → Type 0
+AsBefore {A} before l k = (past : A) → get_or l k past ≡ before k
+
+abbrev pub KeptFrom : {A : Type 0} → (ℕ → A) → ℕ → List A → Type 0
+KeptFrom before first l = (k : ℕ) → first ≤ k → k < LONGEST → AsBefore before l k
 
 abbrev pub LagsKeptFrom : ℕ → List ℤ → Type 0
-LagsKeptFrom first l = (k : ℕ) → first ≤ k → k < 4300 → excess (get_or l k (pos 0)) ≡ excess_before k
+LagsKeptFrom first l = (k : ℕ) → first ≤ k → k < LONGEST → excess (get_or l k (pos 0)) ≡ excess_before k

@@ -4,145 +4,120 @@ ghost use Rattle.std.specs.Prelude.{◌≤◌};
 use sheet::answer::Answer;
 use sheet::lag::excess_of;
 
-pub fn byte(out: &mut [u8; 4096], used: &mut usize, x: u8) {
-    let at = *used;
-    if at < 4096 {
-        out[at] = x;
-        *used = at + 1;
-        return;
+// The text that is not yet written. It can't be dropped, so that a program that forgets `finish` is refused.
+pub struct Out {
+    bytes: [u8; 4096],
+    used: usize,
+    ghost room: { used ≤ 4096 },
+}
+
+impl Out {
+    // Nothing gathered yet.
+    pub fn new() -> Self {
+        Out {
+            bytes: [0; 4096],
+            used: 0,
+        }
     }
-    io::write_all(1, out);
-    out[0] = x;
-    *used = 1;
-}
 
-pub fn text(out: &mut [u8; 4096], used: &mut usize, line: &[u8]) {
-    for i in 0..line.len() {
-        byte(out, used, line[i]);
+    // One more byte: where the buffer is full, what is in it is written first.
+    pub fn byte(&mut self, x: u8) {
+        if self.used == 4096 {
+            io::write_all(1, &self.bytes);
+            self.used = 0;
+        }
+        self.bytes[self.used] = x;
+        self.used += 1;
     }
-}
 
-pub fn number(out: &mut [u8; 4096], used: &mut usize, x: u32) {
-    let mut digits = [0u8; 20];
-    let k = io::decimal(x as u64, &mut digits);
-    text(out, used, &digits[..k]);
-}
-
-// A space and the number: every number but a line's first.
-pub fn next_number(out: &mut [u8; 4096], used: &mut usize, x: u32) {
-    byte(out, used, b' ');
-    number(out, used, x);
-}
-
-// The line that an answer begins with, all of it or without its value.
-pub fn head(out: &mut [u8; 4096], used: &mut usize, code: u32, answer: Answer) {
-    number(out, used, code);
-    next_number(out, used, answer.number);
-    next_number(out, used, answer.place);
-    next_number(out, used, answer.value);
-    byte(out, used, b'\n');
-}
-
-pub fn short_head(out: &mut [u8; 4096], used: &mut usize, code: u32, answer: Answer) {
-    number(out, used, code);
-    next_number(out, used, answer.number);
-    next_number(out, used, answer.place);
-    byte(out, used, b'\n');
-}
-
-// A program's line for a refusal: its value is not written.
-pub fn refused(out: &mut [u8; 4096], used: &mut usize, answer: Answer) {
-    text(out, used, b"refused");
-    next_number(out, used, answer.number);
-    next_number(out, used, answer.place);
-    byte(out, used, b'\n');
-}
-
-// The line that says whether all that was lent and not to be written is what it was before the call.
-pub fn kept_line(out: &mut [u8; 4096], used: &mut usize, kept: bool) {
-    if kept {
-        text(out, used, b"kept\n");
-        return;
+    // The bytes of a text, as they are.
+    pub fn text(&mut self, line: &[u8]) {
+        for x in line {
+            self.byte(*x);
+        }
     }
-    text(out, used, b"changed\n");
-}
 
-// A line with a name and the first `count` entries of a list.
-pub fn list(
-    out: &mut [u8; 4096],
-    used: &mut usize,
-    name: &[u8],
-    entries: &[u32; 4300],
-    count: usize,
-)
-    requires { count ≤ 4300 }
-{
-    text(out, used, name);
-    for i in 0..count {
-        next_number(out, used, entries[i]);
+    // A number by its decimal digits.
+    pub fn number(&mut self, x: u32) {
+        let mut digits = [0u8; 20];
+        let k = io::decimal(x as u64, &mut digits);
+        self.text(&digits[..k]);
     }
-    byte(out, used, b'\n');
-}
 
-fn next_byte(out: &mut [u8; 4096], used: &mut usize, x: u8) {
-    next_number(out, used, x as u32);
-}
-
-// The same of a list of bytes.
-pub fn bytes(
-    out: &mut [u8; 4096],
-    used: &mut usize,
-    name: &[u8],
-    entries: &[u8; 4300],
-    count: usize,
-)
-    requires { count ≤ 4300 }
-{
-    text(out, used, name);
-    for i in 0..count {
-        next_byte(out, used, entries[i]);
+    // A space and the entry: every entry but a line's first.
+    pub fn next<T: Entry>(&mut self, x: T) {
+        self.byte(b' ');
+        x.write(self);
     }
-    byte(out, used, b'\n');
-}
 
-// A space and the lag, from its excess number, which has no sign.
-pub fn next_lag(out: &mut [u8; 4096], used: &mut usize, lag: i16) {
-    let e = excess_of(lag);
-    if e < 32768 {
-        text(out, used, b" -");
-        number(out, used, 32768 - e);
-        return;
+    // A space and the entry for each, and the end of the line.
+    pub fn rest<T: Entry>(&mut self, entries: &[T]) {
+        for x in entries {
+            self.next(*x);
+        }
+        self.byte(b'\n');
     }
-    next_number(out, used, e - 32768);
-}
 
-// The same of a list of lags.
-pub fn lag_list(
-    out: &mut [u8; 4096],
-    used: &mut usize,
-    name: &[u8],
-    entries: &[i16; 4300],
-    count: usize,
-)
-    requires { count ≤ 4300 }
-{
-    text(out, used, name);
-    for i in 0..count {
-        next_lag(out, used, entries[i]);
+    // A line with a name and the entries of a list.
+    pub fn list<T: Entry>(&mut self, name: &[u8], entries: &[T]) {
+        self.text(name);
+        self.rest(entries);
     }
-    byte(out, used, b'\n');
-}
 
-// Takes a slice: of an array behind a reference no part can be lent.
-fn write_first(bytes: &[u8], count: usize) {
-    if count < bytes.len() {
-        io::write_all(1, &bytes[..count]);
-    } else {
-        io::write_all(1, bytes);
+    // The line that an answer begins with, all of it or without its value.
+    pub fn head(&mut self, code: u32, answer: Answer) {
+        self.number(code);
+        self.rest(&[answer.number, answer.place, answer.value]);
+    }
+
+    pub fn short_head(&mut self, code: u32, answer: Answer) {
+        self.number(code);
+        self.rest(&[answer.number, answer.place]);
+    }
+
+    // A program's line for a refusal: its value is not written.
+    pub fn refused(&mut self, answer: Answer) {
+        self.list(b"refused", &[answer.number, answer.place]);
+    }
+
+    // The line that says whether all that was lent and not to be written is what it was before the call.
+    pub fn kept(&mut self, kept: bool) {
+        self.text(if kept { b"kept\n" } else { b"changed\n" });
+    }
+
+    // Writes what is left in the buffer.
+    pub fn finish(self) {
+        let Out { bytes, used } = self;
+        io::write_all(1, &bytes[..used]);
     }
 }
 
-// Writes what is left in the buffer.
-pub fn flush(out: &[u8; 4096], used: usize) {
-    write_first(out, used);
+// What a line can hold after a space: the entry by its digits, a lag with its sign.
+pub trait Entry: Copy {
+    fn write(self, out: &mut Out);
+}
+
+impl Entry for u32 {
+    fn write(self, out: &mut Out) {
+        out.number(self);
+    }
+}
+
+impl Entry for u8 {
+    fn write(self, out: &mut Out) {
+        out.number(self as u32);
+    }
+}
+
+// A lag, from its excess number, which has no sign.
+impl Entry for i16 {
+    fn write(self, out: &mut Out) {
+        let e = excess_of(self);
+        if e < 32768 {
+            out.byte(b'-');
+            out.number(32768 - e);
+        } else {
+            out.number(e - 32768);
+        }
+    }
 }

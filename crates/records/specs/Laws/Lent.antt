@@ -1,24 +1,36 @@
--- One more entry: what a turn of a loop over a lent list adds to what is known of the entries passed.
-use Rattle.std.specs.Prelude.{◌≡◌, List, ℕ, ◌+◌, ◌<◌, ◌≤◌, length, get_or, set}
-use Rattle.std.proofs.Common.{◌∙◌, arith, get_or-set_same, get_or-set_other}
-use Rattle.std.proofs.Math.Decide.{ℕ_discrete}
+-- What a test of each entry says of a lent list, and a lent list of lags by its excess numbers.
+use Rattle.std.specs.Prelude.{◌≡◌, Bool, true, false, List, ℕ, ◌+◌, ◌-◌, ◌<◌, ◌≤◌, ◌↔◌, length, get_or, ℤ, pos, negsuc, MatchBool}
+use Rattle.std.specs.List.{AllWithin, HoldsAt, range_with_len}
+use Rattle.std.proofs.Common.{◌∙◌, ap, sym, subst, arith}
+use Rattle.std.proofs.lemmas.List.FromFn.{get_or-range_with_len, length-range_with_len}
+use Rattle.std.proofs.lemmas.List.{get_or_default}
+use Rattle.std.specs.Int.Signed.{mag}
+use Rattle.sheet.specs.Lag.{excess, lag_of}
+use Rattle.sheet.specs.Laws.Lag.{excess_lag, lag_excess}
+use Rattle.sheet.specs.Rules.{Told}
+use Rattle.records.specs.Lent.{AsBefore, KeptFrom, LagsKeptFrom, lag_before, excess_before}
+use Rattle.records.specs.declared.lent.TheConstants.{LONGEST}
 
-module _ (P : ℕ → Type 0) (first i : ℕ) where
-  at_step : P i → (k : ℕ) → (k < i → P k) → k < i + 1 → Dec (k ≡ i) → P k
-  at_step here k below h (yes e) = rw e here
-  at_step here k below h (no e) = below (omega arith)
+module _ {A : Type 0} (before : ℕ → A) (l : List A) where
+  -- every number from `first` on was tried, or one was found where the entry is another
+  pub kept_by_range : (first : ℕ) (r : Bool) → MatchBool r (AllWithin (AsBefore before l) (range_with_len first (LONGEST - first)) 0 (length (range_with_len first (LONGEST - first)))) ((k : ℕ) × (k < length (range_with_len first (LONGEST - first))) × HoldsAt (λ i. AsBefore before l i → ⊥) (range_with_len first (LONGEST - first)) k) → Told (KeptFrom before first l) r
+  kept_by_range first true all = λ k f b. subst (AsBefore before l) (get_or-range_with_len first (LONGEST - first) (k - first) 0 (omega arith) ∙ omega arith) (all (k - first) 0 (omega arith) (omega (arith, length-range_with_len first (LONGEST - first))))
+  kept_by_range first false (k, within, other) = λ kept. subst (λ i. AsBefore before l i → ⊥) (get_or-range_with_len first (LONGEST - first) k 0 (omega (arith, length-range_with_len first (LONGEST - first)))) (other 0) (kept (first + k) (omega arith) (omega (arith, length-range_with_len first (LONGEST - first))))
 
-  pub step_to_lem : ((k : ℕ) → first ≤ k → k < i → P k) → P i → (k : ℕ) → first ≤ k → k < i + 1 → P k
-  step_to_lem all here k f h = at_step here k (all k f) h (ℕ_discrete k i)
+  -- in a list as long as the longest it is the same whatever a read past the end gives
+  pub kept_as_read : (first : ℕ) (past : A) → length l ≡ LONGEST → KeptFrom before first l ↔ ((k : ℕ) → first ≤ k → k < LONGEST → get_or l k past ≡ before k)
+  kept_as_read first past long = (λ h k f few. h k f few past, λ h k f few other. get_or_default l k other past (omega arith) ∙ h k f few)
 
-pub kept_step : (f : ℕ → ℕ) (l : List ℕ) (first i : ℕ) → ((k : ℕ) → first ≤ k → k < i → get_or l k 0 ≡ f k) → get_or l i 0 ≡ f i → (k : ℕ) → first ≤ k → k < i + 1 → get_or l k 0 ≡ f k
-kept_step f l first i = step_to_lem (λ k. get_or l k 0 ≡ f k) first i
+-- ---- lags by their excess numbers, in which code holds them elsewhere
+small_before : (z : ℤ) (k : ℕ) → k < LONGEST → excess z ≡ excess_before k → mag z < 32768
+small_before (pos j) k few e = omega arith
+small_before (negsuc j) k few e = absurd (omega arith)
 
--- For lists of any kind of number; nothing is where the list ends.
-module _ {A : Type 0} (nothing : A) (f : ℕ → A) (l : List A) (i : ℕ) (x : A) (fits : i < length l) (right : x ≡ f i) where
-  marked_at : (k : ℕ) → (k < i → get_or l k nothing ≡ f k) → k < i + 1 → Dec (k ≡ i) → get_or (set l i x) k nothing ≡ f k
-  marked_at k below h (yes e) = rw e (get_or-set_same l i x nothing fits ∙ right)
-  marked_at k below h (no e) = get_or-set_other l i k x nothing e ∙ below (omega arith)
+lag_is_before : (z : ℤ) (k : ℕ) → k < LONGEST → excess z ≡ excess_before k → z ≡ lag_before k
+lag_is_before z k few e = sym (lag_excess z (small_before z k few e)) ∙ ap lag_of e
 
-  pub marked_step : ((k : ℕ) → k < i → get_or l k nothing ≡ f k) → (k : ℕ) → k < i + 1 → get_or (set l i x) k nothing ≡ f k
-  marked_step all k h = marked_at k (all k) h (ℕ_discrete k i)
+pub lags_kept : (first : ℕ) (l : List ℤ) → length l ≡ LONGEST → KeptFrom lag_before first l ↔ LagsKeptFrom first l
+lags_kept first l long = (
+  λ h k f few. ap excess (h k f few (pos 0)) ∙ excess_lag (excess_before k) (omega arith),
+  λ h. (kept_as_read lag_before l first (pos 0) long).1 (λ k f few. lag_is_before (get_or l k (pos 0)) k few (h k f few)),
+)

@@ -1,10 +1,6 @@
 -- Each record leaves fewer bytes.
-use Prim.Native.Nat.{◌-◌, ◌≤◌}
-use lib.ListN.{length}
+use Rattle.std.proofs.Common.{length}
 use Rattle.compare.proofs.cases.run.Given as goal
 
-abbrev pub invariant-loop-at : goal.invariant-loop-at
-invariant-loop-at l = l.at ≤ length l.cases
-
-abbrev pub decreases-loop-at : goal.decreases-loop-at
-decreases-loop-at l = length l.cases - l.at
+abbrev pub decreases-loop-rest : goal.decreases-loop-rest
+decreases-loop-rest l = length l.rest

@@ -1,11 +1,11 @@
 -- The moved sheet has the header of the sheet, and room for all its wires.
-use native.Mathlib.Omega.{arith}
+use Rattle.std.proofs.Common.{arith, rules}
 use mathlib.Core.Path.{◌≡◌}
 use mathlib.Core.List.{List}
 use Prim.Native.Nat.{ℕ, ◌+◌, ◌*◌, ◌<◌, ◌≤◌}
 use lib.IntN.{ℤ}
 use lib.ListN.{length, length-replicate, replicate, take}
-use lib.Seq.{get_or-take}
+use lib.Seq.{get_or-take, length-take-le}
 use Rattle.sheet.specs.Core.{blocks_in, wires_in}
 use Rattle.sheet.specs.Sheet.{Framed}
 use Rattle.sheet.specs.Laws.Sheet.{frame_read}
@@ -14,7 +14,7 @@ use Rattle.moves.specs.Lags.{lags_in}
 use Rattle.moves.specs.Move.{MoveRight, move_outcome}
 use Rattle.moves.specs.Laws.Sheets.{same_blocks}
 use Rattle.moves.specs.Laws.Theorems.{move_means}
-use Rattle.note.proofs.note.moved.Goals as goal
+use Rattle.note.proofs.note.lines.Goals as goal
 
 -- a list that begins as the sheet's first bytes has its number of blocks
 blocks-of : (s t : List ℕ) → 1 < length s → blocks_in (take (length s) t) ≡ blocks_in t
@@ -38,5 +38,7 @@ placed s lags l t a n m h z k f =
       omega arith,
     )
 
-pub lines-requires : goal.lines-requires
-lines-requires c = placed c.args.sheet.now c.args.lags.now (replicate 2576 0) _ _ _ _ c.move_by-answer.ensures (omega arith) (length-replicate {A = ℕ} 2576 0) (frame_read c.args.sheet.now c.read_frame.result _ _ c.read_frame.ensures c.in-Counts.is)
+pub invariant_of-note : goal.invariant_of-note
+invariant_of-note c =
+    let p = placed c.args.sheet.now c.best.new.lags (replicate 2576 0) _ c.move_by.result _ _ c.move_by.ensures c.in_ok-value_of.ensures.done.0 (length-replicate {A = ℕ} 2576 0) (frame_read c.args.sheet.now c.read_frame.result _ _ c.read_frame.ensures c.in-Counts.is) in
+    let long = length-take-le c.in-Counts.n c.best.new.lags (omega arith) in search rules
