@@ -3,7 +3,7 @@ ghost use Rattle.std.specs.Prelude.{◌≡◌, ◌+◌, ◌*◌, ◌<◌, ◌≤
 ghost use Rattle.sheet.specs.Core.{blocks_in};
 
 use records::out::Out;
-use sheet::wire::{WireRead, read_wire};
+use sheet::wire::read_wire;
 
 // What a note tells of a sheet: the sheet it was moved to, each block's lag, how many wires it has, and both periods.
 #[derive(Drop)]
@@ -40,13 +40,22 @@ impl Note<'_> {
         requires { j < self.now.wires }
     {
         let n = self.lags.len();
-        let WireRead::Wire(from, to, before) = read_wire(self.sheet, n, j) else {
+        let Ok(wire) = read_wire(self.sheet, n, j) else {
             return;
         };
-        let WireRead::Wire(_, _, after) = read_wire(self.moved, n, j) else {
+        let Ok(moved) = read_wire(self.moved, n, j) else {
             return;
         };
-        out.list(b"wire", &[j as u32, from as u32, to as u32, before, after]);
+        out.list(
+            b"wire",
+            &[
+                j as u32,
+                wire.from as u32,
+                wire.to as u32,
+                wire.registers,
+                moved.registers,
+            ],
+        );
     }
 
     // All lines: the counts, the periods, each block's lag and each wire.

@@ -3,7 +3,7 @@ use crate::lines::Note;
 use records::answers::value_of;
 use records::out::Out;
 use sheet::answer::Answer;
-use sheet::frame::{Frame, read_frame};
+use sheet::frame::read_frame;
 
 // The note's lines, or the first refusal. The moved sheet has as many blocks as the sheet, so that its wires lie at the same places.
 fn lines(out: &mut Out, sheet: &[u8]) -> Result<(), Answer> {
@@ -13,21 +13,17 @@ fn lines(out: &mut Out, sheet: &[u8]) -> Result<(), Answer> {
     let standing = value_of(periods::period(sheet))?;
     let best = value_of(periods::best(sheet, &mut lags, &mut words))?;
     value_of(moves::move_by(sheet, &lags, &mut moved))?;
-    match read_frame(sheet) {
-        Frame::Refused(refusal) => Err(refusal),
-        Frame::Counts(n, wires) => {
-            let note = Note {
-                sheet,
-                moved: &moved,
-                lags: &lags[..n],
-                wires,
-                standing,
-                best,
-            };
-            note.write(out);
-            Ok(())
-        }
-    }
+    let opened = read_frame(sheet)?;
+    let note = Note {
+        sheet,
+        moved: &moved,
+        lags: &lags[..opened.n],
+        wires: opened.m,
+        standing,
+        best,
+    };
+    note.write(out);
+    Ok(())
 }
 
 // The first refusal is the whole note.

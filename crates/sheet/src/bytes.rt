@@ -7,14 +7,14 @@ pub fn u16_at(s: &[u8], at: usize) -> u32
     requires { at + 1 < length s.now }
     ensures { (result ≡ u16_at s.now at) × (result < 65536) }
 {
-    u32::from(s[at]) + 256 * u32::from(s[at + 1])
+    u32::from(u16::from_le_bytes([s[at], s[at + 1]]))
 }
 
 pub fn u32_at(s: &[u8], at: usize) -> u32
     requires { at + 3 < length s.now }
     ensures { result ≡ u32_at s.now at }
 {
-    u16_at(s, at) + 65536 * u16_at(s, at + 2)
+    u32::from_le_bytes([s[at], s[at + 1], s[at + 2], s[at + 3]])
 }
 
 // The excess number of the i16 at a place.
@@ -29,8 +29,9 @@ pub fn put_u16(s: &mut [u8], at: usize, x: u32)
     requires { (at + 1 < length s.old) × (x < 65536) }
     ensures { s.new ≡ put16 s.old at x }
 {
-    s[at] = (x % 256) as u8;
-    s[at + 1] = (x / 256) as u8;
+    let [low, high, _, _] = x.to_le_bytes();
+    s[at] = low;
+    s[at + 1] = high;
 }
 
 // The i16 whose excess number is e.

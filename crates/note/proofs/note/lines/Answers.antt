@@ -8,7 +8,6 @@ use lib.ListN.{length, length-replicate, replicate, take}
 use lib.Seq.{get_or-take, length-take-le}
 use Rattle.sheet.specs.Core.{blocks_in, wires_in}
 use Rattle.sheet.specs.Sheet.{Framed}
-use Rattle.sheet.specs.Laws.Sheet.{frame_read}
 use Rattle.sheet.specs.declared.answer.Answer.{Answer}
 use Rattle.moves.specs.Lags.{lags_in}
 use Rattle.moves.specs.Move.{MoveRight, move_outcome}
@@ -40,5 +39,5 @@ placed s lags l t a n m h z k f =
 
 pub invariant_of-note : goal.invariant_of-note
 invariant_of-note c =
-    let p = placed c.args.sheet.now c.best.new.lags (replicate 2576 0) _ c.move_by.result _ _ c.move_by.ensures c.in_ok-value_of.ensures.done.0 (length-replicate {A = ℕ} 2576 0) (frame_read c.args.sheet.now c.read_frame.result _ _ c.read_frame.ensures c.in-Counts.is) in
-    let long = length-take-le c.in-Counts.n c.best.new.lags (omega arith) in search rules
+    let p = placed c.args.sheet.now c.best.new.lags (replicate 2576 0) _ c.move_by.result _ _ c.move_by.ensures c.in_ok-value_of.ensures.done.0 (length-replicate {A = ℕ} 2576 0) (c.in_ok-opened.ensures.1, c.in_ok-opened.ensures.2, c.in_ok-opened.ensures.3) in
+    let long = length-take-le c.in_ok-opened.opened.n c.best.new.lags (omega arith) in search rules
