@@ -1,6 +1,4 @@
 -- Laws about the definitions of specs/, for proofs and for the crates above.
 pub mod Walk
 pub mod State
-pub mod Step
-pub mod Sweep
 pub mod Begun

@@ -1,110 +1,69 @@
--- What holds of the solver's three lists between two rules, and what each of its functions gives.
-use Rattle.std.specs.Prelude.{◌≡◌, ◌⊎◌, List, ℕ, ◌+◌, ◌*◌, ◌≤◌, ◌<◌, length, get_or}
-use Rattle.solver.specs.System.{Given, Rule, Link, Fit, Solution, Holds}
+-- What holds of where the solver stands between two rules, and what each of its functions gives.
+use Rattle.std.specs.Prelude.{◌≡◌, ◌⊎◌, Bool, true, false, Result, Ok, Err, List, ℕ, ◌+◌, ◌*◌, ◌≤◌, ◌<◌, length, get_or}
+use Rattle.solver.specs.declared.Given.{Given}
+use Rattle.solver.specs.declared.Standing.{Standing}
+use Rattle.solver.specs.declared.Broken.{Broken}
+use Rattle.solver.specs.declared.Rule.{Rule}
+use Rattle.solver.specs.declared.Rule.TheVariants as R
+use Rattle.solver.specs.System.{Says, Link, Fit, Solution, Holds}
 use Rattle.solver.specs.Walk.{Rooted, Hit}
 use Rattle.sheet.specs.Laws.Sum.{sum}
-use Rattle.solver.specs.declared.Turn.{Turn}
-use Rattle.solver.specs.declared.Turn.TheVariants as T
-use Rattle.solver.specs.declared.End.{End}
-use Rattle.solver.specs.declared.End.TheVariants as E
 
--- e holds each block's lag, par the block that its link leads to, up its link's number.
--- Every solution lies at or below e, a block is at or above what its link asks, and following links ends at the host.
-pub record State (g : Given) (e par up : List ℕ) : Type 0 where
+-- Every solution lies at or below the lags, a block is at or above what its rule asks, and following links ends at the host.
+pub record State (g : Given) (t : Standing) : Type 0 where
   pub fit : Fit g
-  pub e_long : length e ≡ 64
-  pub par_long : length par ≡ 64
-  pub up_long : length up ≡ 64
-  pub most : (s : ℕ → ℕ) → Solution g s → (b : ℕ) → b < g.n → s b ≤ get_or e b 0
-  pub low : (b : ℕ) → b < g.n → get_or g.lower b 0 ≤ get_or e b 0
-  pub high : (b : ℕ) → b < g.n → get_or e b 0 ≤ get_or g.upper b 0
-  pub rooted : Rooted g.n par
-  pub held : (b : ℕ) → b < g.n → (k : ℕ) × Link g (get_or up b 0) b (get_or par b 0) k × (get_or e (get_or par b 0) 0 + k ≤ get_or e b 0 + 32768)
+  pub lags_long : length t.lags ≡ 64
+  pub next_long : length t.next ≡ 64
+  pub rules_long : length t.rules ≡ 64
+  pub most : (s : ℕ → ℕ) → Solution g s → (b : ℕ) → b < g.n → s b ≤ get_or t.lags b 0
+  pub low : (b : ℕ) → b < g.n → get_or g.lower b 0 ≤ get_or t.lags b 0
+  pub high : (b : ℕ) → b < g.n → get_or t.lags b 0 ≤ get_or g.upper b 0
+  pub rooted : Rooted g.n t.next
+  pub held : (b : ℕ) → b < g.n → (k : ℕ) × Link g (get_or t.rules b R.Limit) b (get_or t.next b 0) k × (get_or t.lags (get_or t.next b 0) 0 + k ≤ get_or t.lags b 0 + 32768)
 
--- why rule i from a to b leaves no solution: it asks for less than the lower limit, or the links from b lead to a
-pub record Stuck (g : Given) (e par : List ℕ) (i a b : ℕ) : Type 0 where
+-- why a broken rule leaves no solution: it asks for less than the lower limit of a, or the links from b lead to a
+pub record Stuck (g : Given) (t : Standing) (x : Broken) : Type 0 where
   pub k : ℕ
-  pub rule : Rule g i a b k
-  pub broken : get_or e b 0 + k < get_or e a 0 + 32768
-  pub why : Hit par a b ⊎ (get_or e b 0 + k < get_or g.lower a 0 + 32768)
+  pub says : Says g x.rule x.a x.b k
+  pub broken : get_or t.lags x.b 0 + k < get_or t.lags x.a 0 + 32768
+  pub why : Hit t.next x.a x.b ⊎ (get_or t.lags x.b 0 + k < get_or g.lower x.a 0 + 32768)
 
--- one rule was tried: 0 where what it says holds, 1 where it was broken and is kept now, 2 where there is no solution
-pub record Relaxed (g : Given) (Says : List ℕ → Type 0) (e e' par' up' : List ℕ) (i a b r : ℕ) : Type 0 where
-  pub small : r ≤ 2
-  pub state : State g e' par' up'
-  pub same : r ≡ 0 → (e' ≡ e) × Says e'
-  pub less : r ≡ 1 → sum e' < sum e
-  pub none : r ≡ 2 → Stuck g e' par' i a b
+-- rules were tried and are kept, and `lowered` says whether one of them lowered a lag; where none did, what they say is `Done`
+pub record Swept (g : Given) (Done : List ℕ → Type 0) (t t' : Standing) (lowered : Bool) : Type 0 where
+  pub state : State g t'
+  pub less : lowered ≡ true → sum t'.lags < sum t.lags
+  pub same : lowered ≡ false → (t'.lags ≡ t.lags) × Done t'.lags
 
--- at most `tried` rules were tried and are kept, and `changed` of them lowered something; where none did, what they say is `Done`
-pub record Swept (g : Given) (Done : List ℕ → Type 0) (tried : ℕ) (e e' par' up' : List ℕ) (changed : ℕ) : Type 0 where
-  pub few : changed ≤ tried
-  pub state : State g e' par' up'
-  pub less : sum e' + changed ≤ sum e
-  pub same : changed ≡ 0 → (e' ≡ e) × Done e'
+-- the rules are kept, or one of them leaves no solution
+abbrev pub Turned : (g : Given) → (List ℕ → Type 0) → Standing → Standing → Result Bool Broken → Type 0
+Turned g Done t t' (Ok lowered) = Swept g Done t t' lowered
+Turned g Done t t' (Err x) = State g t' × Stuck g t' x
 
--- a sweep keeps its rules, or a rule leaves no solution
-abbrev pub Turned : (g : Given) → (List ℕ → Type 0) → ℕ → List ℕ → List ℕ → List ℕ → List ℕ → Turn → Type 0
-Turned g Done tried e e' par' up' (T.Kept changed) = Swept g Done tried e e' par' up' changed
-Turned g Done tried e e' par' up' (T.Broken i a b) = State g e' par' up' × Stuck g e' par' i a b
-
--- rule i, as its numbers, may be tried on the state
-pub record Ready (g : Given) (lower e par up : List ℕ) (n i a b k : ℕ) : Type 0 where
-  pub state : State g e par up
-  pub rule : Rule g i a b k
-  pub n_is : n ≡ g.n
-  pub lower_is : lower ≡ g.lower
-
--- ---- what the sweeps go over: rules `base + j` from a list of wires' ends, and the rules of one row of the path table
-pub record Wires (g : Given) (lower from to bounds : List ℕ) (n m base : ℕ) : Type 0 where
-  pub n_is : n ≡ g.n
-  pub few : m ≤ 256
-  pub lower_is : lower ≡ g.lower
+-- ---- what the sweeps go over: the rules from lists of the wires' ends, and the rules of the path table, row by row
+pub record Wires (g : Given) (from to bounds : List ℕ) : Type 0 where
   pub from_long : length from ≡ 256
   pub to_long : length to ≡ 256
   pub bounds_long : length bounds ≡ 256
-  pub base_small : base ≤ 258
-  pub rules : (j : ℕ) → j < m → Rule g (base + j) (get_or from j 0) (get_or to j 0) (get_or bounds j 0)
 
--- the first k of these wires' rules hold
+-- the rules of the first k wires hold
 abbrev pub WiresHold : List ℕ → List ℕ → List ℕ → ℕ → List ℕ → Type 0
 WiresHold from to bounds k e = (j : ℕ) → j < k → Holds e (get_or from j 0) (get_or to j 0) (get_or bounds j 0)
 
-pub record Paths (g : Given) (lower registers delays : List ℕ) (n period : ℕ) : Type 0 where
-  pub n_is : n ≡ g.n
-  pub period_is : period ≡ g.period
-  pub lower_is : lower ≡ g.lower
-  pub registers_is : registers ≡ g.registers
-  pub delays_is : delays ≡ g.delays
-
 -- the rule of the pair u, v holds, where its delay exceeds the period
-abbrev pub PathHolds : List ℕ → List ℕ → ℕ → ℕ → ℕ → ℕ → List ℕ → Type 0
-PathHolds registers delays n period u v e = period < get_or delays (u * n + v) 0 → Holds e u v (get_or registers (u * n + v) 0 + 32767)
+abbrev pub PathHolds : Given → ℕ → ℕ → List ℕ → Type 0
+PathHolds g u v e = g.period < get_or g.delays (u * g.n + v) 0 → Holds e u v (get_or g.registers (u * g.n + v) 0 + 32767)
 
-abbrev pub RowHolds : List ℕ → List ℕ → ℕ → ℕ → ℕ → ℕ → List ℕ → Type 0
-RowHolds registers delays n period u k e = (v : ℕ) → v < k → PathHolds registers delays n period u v e
+abbrev pub RowHolds : Given → ℕ → ℕ → List ℕ → Type 0
+RowHolds g u k e = (v : ℕ) → v < k → PathHolds g u v e
 
-abbrev pub PathsHold : List ℕ → List ℕ → ℕ → ℕ → ℕ → List ℕ → Type 0
-PathsHold registers delays n period k e = (u : ℕ) → u < k → RowHolds registers delays n period u n e
+abbrev pub PathsHold : Given → ℕ → List ℕ → Type 0
+PathsHold g k e = (u : ℕ) → u < k → RowHolds g u g.n e
 
 -- all rules hold
 abbrev pub AllHold : Given → List ℕ → Type 0
-AllHold g e = (i a b k : ℕ) → Rule g i a b k → Holds e a b k
-
--- code's lists are those that the solver is given
-pub record Lists (g : Given) (lower from to wires ceilings registers delays : List ℕ) (n m period : ℕ) : Type 0 where
-  pub n_is : n ≡ g.n
-  pub m_is : m ≡ g.m
-  pub period_is : period ≡ g.period
-  pub lower_is : lower ≡ g.lower
-  pub from_is : from ≡ g.from
-  pub to_is : to ≡ g.to
-  pub wires_is : wires ≡ g.wires
-  pub ceilings_is : ceilings ≡ g.ceilings
-  pub registers_is : registers ≡ g.registers
-  pub delays_is : delays ≡ g.delays
+AllHold g e = (r : Rule) (a b k : ℕ) → Says g r a b k → Holds e a b k
 
 -- the rounds have ended: the lags are a solution and the largest, or a rule leaves none
-abbrev pub Settled : Given → List ℕ → List ℕ → List ℕ → End → Type 0
-Settled g e par up E.Rest = State g e par up × AllHold g e
-Settled g e par up (E.Stuck i a b) = State g e par up × Stuck g e par i a b
+abbrev pub Settled : Given → Standing → Result (Unit {0}) Broken → Type 0
+Settled g t (Ok done) = State g t × AllHold g t.lags
+Settled g t (Err x) = State g t × Stuck g t x

@@ -1,58 +1,28 @@
 -- The rules that lags keep, as code holds them: a lag is its excess number, and a rule's k is held as k + 32,768.
 -- Rules are read from the wires' lists and the path table; they stand in no list of their own.
 use Rattle.std.specs.Prelude.{◌≡◌, List, ℕ, ◌+◌, ◌*◌, ◌≤◌, ◌<◌, length, get_or}
-
--- what the solver is given
-pub record Given : Type 0 where
-  pub n : ℕ
-  pub m : ℕ
-  pub period : ℕ
-  -- the blocks' limits
-  pub lower : List ℕ
-  pub upper : List ℕ
-  -- the wires' ends, the k of each wire's rule and of each ceiling's
-  pub from : List ℕ
-  pub to : List ℕ
-  pub wires : List ℕ
-  pub ceilings : List ℕ
-  -- the path table
-  pub registers : List ℕ
-  pub delays : List ℕ
-
--- the lists that code holds, as what the solver is given
-abbrev pub given : ℕ → ℕ → ℕ → List ℕ → List ℕ → List ℕ → List ℕ → List ℕ → List ℕ → List ℕ → List ℕ → Given
-given n m p lower upper from to wires ceilings registers delays = record {
-  n = n;
-  m = m;
-  period = p;
-  lower = lower;
-  upper = upper;
-  from = from;
-  to = to;
-  wires = wires;
-  ceilings = ceilings;
-  registers = registers;
-  delays = delays;
-}
+use Rattle.solver.specs.declared.Given.{Given}
+use Rattle.solver.specs.declared.Rule.{Rule}
+use Rattle.solver.specs.declared.Rule.TheVariants as R
 
 -- the same with another period and path table
 abbrev pub tabled : Given → ℕ → List ℕ → List ℕ → Given
-tabled g p registers delays = given g.n g.m p g.lower g.upper g.from g.to g.wires g.ceilings registers delays
+tabled g p registers delays = record g { period = p; registers = registers; delays = delays }
 
 -- no delay is above `most`
 pub record Within (delays : List ℕ) (most : ℕ) : Type 0 where
   pub all : (i : ℕ) → get_or delays i 0 ≤ most
 
--- rule i says lag(a) - lag(b) <= k: i is 1 for a path, 2 + j for wire j, 258 + j for the ceiling of wire j
-pub data Rule (g : Given) (i a b k : ℕ) : Type 0 where
-  path : i ≡ 1 → a < g.n → b < g.n → g.period < get_or g.delays (a * g.n + b) 0 → k ≡ get_or g.registers (a * g.n + b) 0 + 32767 → Rule g i a b k
-  wire : (j : ℕ) → j < g.m → i ≡ 2 + j → a ≡ get_or g.from j 0 → b ≡ get_or g.to j 0 → k ≡ get_or g.wires j 0 → Rule g i a b k
-  ceiling : (j : ℕ) → j < g.m → i ≡ 258 + j → a ≡ get_or g.to j 0 → b ≡ get_or g.from j 0 → k ≡ get_or g.ceilings j 0 → Rule g i a b k
+-- the rule r, a path's, wire j's or that of the ceiling of wire j, says lag(a) - lag(b) <= k
+pub data Says (g : Given) (r : Rule) (a b k : ℕ) : Type 0 where
+  path : r ≡ R.Path → a < g.n → b < g.n → g.period < get_or g.delays (a * g.n + b) 0 → k ≡ get_or g.registers (a * g.n + b) 0 + 32767 → Says g r a b k
+  wire : (j : ℕ) → j < g.m → r ≡ R.Wire j → a ≡ get_or g.from j 0 → b ≡ get_or g.to j 0 → k ≡ get_or g.wires j 0 → Says g r a b k
+  ceiling : (j : ℕ) → j < g.m → r ≡ R.Ceiling j → a ≡ get_or g.to j 0 → b ≡ get_or g.from j 0 → k ≡ get_or g.ceilings j 0 → Says g r a b k
 
--- what holds a block at its lag: a rule, or its upper limit (i is 0), which leads to the host
-pub data Link (g : Given) (i a b k : ℕ) : Type 0 where
-  rule : Rule g i a b k → Link g i a b k
-  upper : i ≡ 0 → b ≡ 0 → k ≡ get_or g.upper a 0 → Link g i a b k
+-- what holds a block at its lag: a rule that says so, or its upper limit, which leads to the host
+pub data Link (g : Given) (r : Rule) (a b k : ℕ) : Type 0 where
+  rule : Says g r a b k → Link g r a b k
+  upper : r ≡ R.Limit → b ≡ 0 → k ≡ get_or g.upper a 0 → Link g r a b k
 
 -- the numbers are small enough for code, and the host's lag is 0
 pub record Fit (g : Given) : Type 0 where
@@ -79,7 +49,7 @@ pub record Fit (g : Given) : Type 0 where
 
 -- lags, as excess numbers, that keep every rule and both limits
 pub record Solution (g : Given) (s : ℕ → ℕ) : Type 0 where
-  pub keeps : (i a b k : ℕ) → Rule g i a b k → s a + 32768 ≤ s b + k
+  pub keeps : (r : Rule) (a b k : ℕ) → Says g r a b k → s a + 32768 ≤ s b + k
   pub low : (b : ℕ) → b < g.n → get_or g.lower b 0 ≤ s b
   pub high : (b : ℕ) → b < g.n → s b ≤ get_or g.upper b 0
 

@@ -1,99 +1,103 @@
 // The solver: from the upper limits down to the largest lags that keep all rules, or to a rule that leaves none.
 #![tactic(auto)]
 
-ghost use Rattle.solver.specs.System.{Given, Within};
-ghost use Rattle.solver.specs.State.{State, Lists, Turned, AllHold, Settled};
+ghost use Rattle.solver.specs.System.{Fit, Within};
+ghost use Rattle.solver.specs.State.{State, Turned, AllHold, Settled};
 
-use crate::sweep::{longest_delay, sweep_paths, sweep_wires};
+use crate::sweep::longest_delay;
 
 pub mod walk; // links followed from block to block
 mod relax; // one rule
 mod sweep; // the rules of all wires, of all ceilings, of the path table
 
-// What a sweep over rules gives: so many lags were lowered, or rule i from a to b leaves none.
+// A rule by which a block's lag is held: its upper limit, or the rule of a path, of a wire or of a wire's ceiling.
 #[derive(Clone, Copy)]
-pub enum Turn {
-    Kept(usize),
-    Broken(usize, usize, usize),
+pub enum Rule {
+    Limit,
+    Path,
+    Wire(usize),
+    Ceiling(usize),
 }
 
-// How the rounds end: all rules hold, or rule i from a to b leaves no lags.
+// What the solver is given: n blocks with their limits, m wires with their ends and the bounds of their rules, and the path table.
+#[derive(Drop)]
+pub struct Given {
+    pub n: usize,
+    pub m: usize,
+    pub period: u32,
+    pub lower: [u32; 64],
+    pub upper: [u32; 64],
+    pub from: [usize; 256],
+    pub to: [usize; 256],
+    pub wires: [u32; 256],
+    pub ceilings: [u32; 256],
+    pub registers: [u32; 4096],
+    pub delays: [u32; 4096],
+}
+
+// Where the solver stands: each block's lag, as its excess number, and the rule that holds it with the block that this leads to.
+#[derive(Drop)]
+pub struct Standing {
+    pub lags: [u32; 64],
+    pub next: [usize; 64],
+    pub rules: [Rule; 64],
+}
+
+// A rule from a to b that leaves no lags.
 #[derive(Clone, Copy)]
-pub enum End {
-    Rest,
-    Stuck(usize, usize, usize),
+pub struct Broken {
+    pub rule: Rule,
+    pub a: usize,
+    pub b: usize,
 }
 
-// One round over all rules. There are path rules only where the longest delay exceeds the period.
-fn round(
-    n: usize,
-    m: usize,
-    period: u32,
-    longest: u32,
-    lower: &[u32; 64],
-    from: &[usize; 256],
-    to: &[usize; 256],
-    wires: &[u32; 256],
-    ceilings: &[u32; 256],
-    registers: &[u32; 4096],
-    delays: &[u32; 4096],
-    e: &mut [u32; 64],
-    par: &mut [usize; 64],
-    up: &mut [usize; 64],
-) -> Turn
-    requires state { (g : Given) × State g e.old par.old up.old × Lists g lower.now from.now to.now wires.now ceilings.now registers.now delays.now n m period }
-    requires within { Within delays.now longest }
-    ensures { (g : Given) → State g e.old par.old up.old → Lists g lower.now from.now to.now wires.now ceilings.now registers.now delays.now n m period → Turned g (AllHold g) 4608 e.old e.new par.new up.new result }
-{
-    let mut changed: usize = 0;
-    match sweep_wires(n, m, 2, lower, from, to, wires, e, par, up) {
-        Turn::Broken(i, a, b) => return Turn::Broken(i, a, b),
-        Turn::Kept(k) => changed += k,
-    }
-    match sweep_wires(n, m, 258, lower, to, from, ceilings, e, par, up) {
-        Turn::Broken(i, a, b) => return Turn::Broken(i, a, b),
-        Turn::Kept(k) => changed += k,
-    }
-    if longest <= period {
-        return Turn::Kept(changed);
-    }
-    match sweep_paths(n, period, lower, registers, delays, e, par, up) {
-        Turn::Broken(i, a, b) => return Turn::Broken(i, a, b),
-        Turn::Kept(k) => changed += k,
-    }
-    Turn::Kept(changed)
-}
-
-// Rounds until nothing is lowered: the largest lags that keep all rules stand in e, or a rule leaves none.
-pub fn settle(
-    n: usize,
-    m: usize,
-    period: u32,
-    lower: &[u32; 64],
-    from: &[usize; 256],
-    to: &[usize; 256],
-    wires: &[u32; 256],
-    ceilings: &[u32; 256],
-    registers: &[u32; 4096],
-    delays: &[u32; 4096],
-    e: &mut [u32; 64],
-    par: &mut [usize; 64],
-    up: &mut [usize; 64],
-) -> End
-    requires { (g : Given) × State g e.old par.old up.old × Lists g lower.now from.now to.now wires.now ceilings.now registers.now delays.now n m period }
-    ensures { (g : Given) → State g e.old par.old up.old → Lists g lower.now from.now to.now wires.now ceilings.now registers.now delays.now n m period → Settled g e.new par.new up.new result }
-{
-    let longest = longest_delay(delays);
-    loop {
-        match round(
-            n, m, period, longest, lower, from, to, wires, ceilings, registers, delays, e, par, up,
-        ) {
-            Turn::Broken(i, a, b) => return End::Stuck(i, a, b),
-            Turn::Kept(k) => {
-                if k == 0 {
-                    return End::Rest;
-                }
-            }
+impl Standing {
+    // Every block at its upper limit, by which it is held.
+    pub fn at_limits(given: &Given) -> Standing
+        requires { Fit given.now }
+        ensures { State given.now result }
+    {
+        Standing {
+            lags: given.upper,
+            next: [0; 64],
+            rules: [Rule::Limit; 64],
         }
     }
+
+    // One round over all rules, and whether some lag was lowered. There are path rules only where the longest delay exceeds the period.
+    fn round(&mut self, given: &Given, longest: u32) -> Result<bool, Broken>
+        requires state { State given.now self.old }
+        requires within { Within given.now.delays longest }
+        ensures { Turned given.now (AllHold given.now) self.old self.new result }
+    {
+        let mut lowered = self.sweep_wires(
+            given,
+            &given.from,
+            &given.to,
+            &given.wires,
+            Rule::Wire,
+        )?;
+        lowered |= self.sweep_wires(
+            given,
+            &given.to,
+            &given.from,
+            &given.ceilings,
+            Rule::Ceiling,
+        )?;
+        if longest <= given.period {
+            return Ok(lowered);
+        }
+        lowered |= self.sweep_paths(given)?;
+        Ok(lowered)
+    }
+}
+
+// Rounds until nothing is lowered: the largest lags that keep all rules stand there, or a rule leaves none.
+pub fn settle(given: &Given, standing: &mut Standing) -> Result<(), Broken>
+    requires { State given.now standing.old }
+    ensures { Settled given.now standing.new result }
+{
+    let longest = longest_delay(&given.delays);
+    while standing.round(given, longest)? {}
+    Ok(())
 }

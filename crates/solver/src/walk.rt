@@ -3,21 +3,19 @@ ghost use Rattle.std.specs.Prelude.{◌≡◌, ◌<◌, ◌≤◌, length};
 ghost use Rattle.solver.specs.Walk.{Rooted, Met};
 
 // Whether the walk from b meets a.
-pub fn meets(n: usize, par: &[usize; 64], a: usize, b: usize) -> bool
-    requires { Rooted n par.now × (b < n) × (n ≤ 64) × (length par.now ≡ 64) }
-    ensures { Met par.now a b result }
+pub fn meets(n: usize, next: &[usize; 64], a: usize, b: usize) -> bool
+    requires { Rooted n next.now × (b < n) × (n ≤ 64) × (length next.now ≡ 64) }
+    ensures { Met next.now a b result }
 {
     let mut v = b;
-    let mut k: usize = 0;
-    while k < n {
+    for _ in 0..n {
         if v == a {
             return true;
         }
         if v == 0 {
             return false;
         }
-        v = par[v];
-        k += 1;
+        v = next[v];
     }
     false
 }

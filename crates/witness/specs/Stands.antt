@@ -4,7 +4,7 @@ use Rattle.sheet.specs.Lag.{excess}
 use Rattle.sheet.specs.Core.{blocks_in, wires_in, lower_in, upper_in, from_in, to_in, registers_in, shape_of, core_of}
 use Rattle.paths.specs.Table.{Table}
 use Rattle.paths.specs.Questions.{SoundSheet}
-use Rattle.solver.specs.System.{Given}
+use Rattle.solver.specs.declared.Given.{Given}
 
 -- there is a path rule: some pair's delay exceeds the period
 pub record Slow (g : Given) : Type 0 where

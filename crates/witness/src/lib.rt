@@ -1,39 +1,49 @@
 // The loop that proves a refusal, written from where the solver stopped.
 #![tactic(auto)]
 
-ghost use Rattle.std.specs.Prelude.{List, ℕ, ◌+◌, ◌*◌, ◌≤◌, length};
+ghost use Rattle.std.specs.Prelude.{◌≡◌, ◌+◌, ◌*◌, ◌<◌, ◌≤◌, length};
 ghost use Rattle.sheet.specs.Core.{core_of};
-ghost use Rattle.solver.specs.System.{Given};
+ghost use Rattle.solver.specs.Walk.{Rooted};
 ghost use Rattle.witness.specs.Written.{LoopWritten};
-ghost use Rattle.witness.specs.Walked.{Halted};
+ghost use Rattle.witness.specs.Walked.{Halted, Ends};
 
-use crate::link::write_link;
-use crate::walk::{walk_end, write_start, write_walk};
+use crate::link::{write_link, write_start};
+use solver::walk::meets;
+use solver::{Broken, Given, Standing};
 
 mod link; // the words of one link
-mod read; // numbers of the sheet and of the path table
+mod read; // numbers of the sheet
 mod trace; // a path link's wires
-mod walk; // the links from where the solver is stuck
 
-// The words of a valid loop, from the rule i from a to b that leaves no solution, and from the links; their count.
+// Where the walk of links from b ends: at a, or at the host if it does not meet a.
+fn walk_end(n: usize, next: &[usize; 64], a: usize, b: usize) -> usize
+    requires { Rooted n next.now × (b < n) × (n ≤ 64) × (length next.now ≡ 64) }
+    ensures { Ends next.now a b result }
+{
+    if meets(n, next, a, b) { a } else { 0 }
+}
+
+// The words of a valid loop, from the rule that leaves no solution and from the links of the walk from its b; their count.
 pub fn write_loop(
     s: &[u8],
-    n: usize,
-    registers: &[u32; 4096],
-    delays: &[u32; 4096],
-    par: &[usize; 64],
-    up: &[usize; 64],
-    i: usize,
-    a: usize,
-    b: usize,
+    given: &Given,
+    standing: &Standing,
+    broken: Broken,
     words: &mut [u16],
 ) -> usize
-    requires n_in_bounds { n * (n + 2) ≤ length words.old }
-    requires by_index { (g : Given) × (e : List ℕ) × Halted s.now n registers.now delays.now par.now up.now i a b g e }
-    ensures { (g : Given) → (e : List ℕ) → Halted s.now n registers.now delays.now par.now up.now i a b g e → LoopWritten (core_of s.now) g.period words.old words.new result }
+    requires room { given.now.n * (given.now.n + 2) ≤ length words.old }
+    requires halted { Halted s.now given.now standing.now broken }
+    ensures { LoopWritten (core_of s.now) given.now.period words.old words.new result }
 {
-    let start = walk_end(par, a, b);
-    let second = write_start(start, a, words);
-    let third = write_link(s, n, registers, delays, i, a, b, words, second);
-    write_walk(s, n, registers, delays, par, up, start, b, words, third)
+    let Broken { rule, a, b } = broken;
+    let start = walk_end(given.n, &standing.next, a, b);
+    let mut at = write_start(start, a, words);
+    at += write_link(s, given, rule, a, b, &mut words[at..]);
+    let mut v = b;
+    while v != start {
+        let next = standing.next[v];
+        at += write_link(s, given, standing.rules[v], v, next, &mut words[at..]);
+        v = next;
+    }
+    at
 }

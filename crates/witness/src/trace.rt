@@ -1,148 +1,90 @@
 // A path link's wires: backward from the end along the row of the start, by wires that complete an entry exactly.
-ghost use Rattle.std.specs.Prelude.{◌≡◌, ◌+◌, ◌*◌, ◌<◌, ◌≤◌, length, get_or, drop};
-ghost use Rattle.sheet.specs.Core.{blocks_in, wires_in, delay_in, registers_in, shape_of};
-ghost use Rattle.sheet.specs.Sheet.{FormedSheet};
+ghost use Rattle.std.specs.Prelude.{◌≡◌, ◌+◌, ◌*◌, ◌<◌, ◌≤◌, length, get_or};
+ghost use Rattle.sheet.specs.Core.{wires_in, registers_in, shape_of};
 ghost use Rattle.sheet.specs.Rules.{Told};
 ghost use Rattle.tables.specs.Back.{Completed};
-ghost use Rattle.witness.specs.Trace.{Tabled, Based, Bare, Apart, Traced};
+ghost use Rattle.witness.specs.Trace.{Tabled, Based, Bare, Apart, Traced, registers_at, delay_at};
 
-use crate::read::{delay_of, entry_at, from_of};
+use crate::read::{delay_of, from_of};
 use sheet::wire::{WireRead, read_wire};
+use solver::Given;
 
-// Where a wire out of block f starts in row u: the bare start block has no register.
-fn base_registers(n: usize, registers: &[u32; 4096], u: usize, f: usize) -> u32
-    requires { (length registers.now ≡ 4096) × (n ≤ 64) × (u < n) × (f < n) }
-    ensures { Based 0 u f (get_or registers.now (u * n + f) 0) result }
+// Where a wire out of block f starts in row u of one of the path table's lists: the bare start block has its own number.
+fn base(table: &[u32; 4096], n: usize, u: usize, f: usize, own: u32) -> u32
+    requires { (length table.now ≡ 4096) × (n ≤ 64) × (u < n) × (f < n) }
+    ensures { Based own u f (get_or table.now (u * n + f) 0) result }
 {
-    if f == u {
-        return 0;
-    }
-    entry_at(registers, n, u, f)
-}
-
-// The same for its delay: the bare start block has its own.
-fn base_delay(s: &[u8], n: usize, delays: &[u32; 4096], u: usize, f: usize) -> u32
-    requires { FormedSheet s.now × (n ≡ blocks_in s.now) × (length delays.now ≡ 4096) × (u < n) × (f < n) }
-    ensures { Based (delay_in s.now u) u f (get_or delays.now (u * n + f) 0) result }
-{
-    if f == u {
-        return delay_of(s, u);
-    }
-    entry_at(delays, n, u, f)
+    if f == u { own } else { table[u * n + f] }
 }
 
 // Whether the total is x + y, which may be too large to add.
 fn adds(total: u32, x: u32, y: u32) -> bool
     ensures { Told (total ≡ x + y) result }
 {
-    if total < y {
-        return false;
-    }
-    if x != total - y {
-        return false;
-    }
-    true
+    x.checked_add(y) == Some(total)
 }
 
 // Whether wire j into v completes the entry u, v exactly.
-fn completes(
-    s: &[u8],
-    n: usize,
-    registers: &[u32; 4096],
-    delays: &[u32; 4096],
-    u: usize,
-    v: usize,
-    j: usize,
-) -> bool
-    requires { Tabled s.now n registers.now delays.now × (u < n) × (v < n) × (j < wires_in s.now) × (get_or registers.now (u * n + v) 0 < 4294967295) }
-    ensures { Told (Completed (shape_of s.now) (registers_in s.now) u v (get_or registers.now (u * n + v) 0) (get_or delays.now (u * n + v) 0) j) result }
+fn completes(s: &[u8], given: &Given, u: usize, v: usize, j: usize) -> bool
+    requires { Tabled s.now given.now × (u < given.now.n) × (v < given.now.n) × (j < wires_in s.now) × (registers_at given.now u v < 4294967295) }
+    ensures { Told (Completed (shape_of s.now) (registers_in s.now) u v (registers_at given.now u v) (delay_at given.now u v) j) result }
 {
+    let n = given.n;
+    let at = u * n + v;
     let WireRead::Wire(f, t, w) = read_wire(s, n, j) else {
         return false;
     };
     if t != v {
         return false;
     }
-    let before = base_registers(n, registers, u, f);
-    if !adds(entry_at(registers, n, u, v), before, w) {
+    let before = base(&given.registers, n, u, f, 0);
+    if !adds(given.registers[at], before, w) {
         return false;
     }
-    let early = base_delay(s, n, delays, u, f);
-    if !adds(entry_at(delays, n, u, v), early, delay_of(s, v)) {
-        return false;
-    }
-    true
+    let early = base(&given.delays, n, u, f, delay_of(s, u));
+    adds(given.delays[at], early, delay_of(s, v))
 }
 
 // The first wire that completes the entry u, v exactly: there is one, since the pair's best paths are not the bare start block.
-fn last_wire(
-    s: &[u8],
-    n: usize,
-    registers: &[u32; 4096],
-    delays: &[u32; 4096],
-    u: usize,
-    v: usize,
-) -> usize
-    requires tabled { Tabled s.now n registers.now delays.now × (u < n) × (v < n) × (get_or registers.now (u * n + v) 0 < 4294967295) }
-    requires apart { Apart (shape_of s.now) (registers_in s.now) u v (get_or registers.now (u * n + v) 0) (get_or delays.now (u * n + v) 0) }
-    ensures { Completed (shape_of s.now) (registers_in s.now) u v (get_or registers.now (u * n + v) 0) (get_or delays.now (u * n + v) 0) result }
+fn last_wire(s: &[u8], given: &Given, u: usize, v: usize) -> usize
+    requires tabled { Tabled s.now given.now × (u < given.now.n) × (v < given.now.n) × (registers_at given.now u v < 4294967295) }
+    requires apart { Apart (shape_of s.now) (registers_in s.now) u v (registers_at given.now u v) (delay_at given.now u v) }
+    ensures { Completed (shape_of s.now) (registers_in s.now) u v (registers_at given.now u v) (delay_at given.now u v) result }
 {
-    let mut j = 0;
-    while !completes(s, n, registers, delays, u, v, j) {
-        j += 1;
+    for j in 0..given.m {
+        if completes(s, given, u, v, j) {
+            return j;
+        }
     }
-    j
+    unreachable!()
 }
 
 // Whether the best path from u to v is the bare start block.
-fn bare(
-    s: &[u8],
-    n: usize,
-    registers: &[u32; 4096],
-    delays: &[u32; 4096],
-    u: usize,
-    v: usize,
-) -> bool
-    requires { Tabled s.now n registers.now delays.now × (u < n) × (v < n) }
-    ensures { Told (Bare (shape_of s.now) (registers_in s.now) u v (get_or registers.now (u * n + v) 0) (get_or delays.now (u * n + v) 0)) result }
+fn bare(s: &[u8], given: &Given, u: usize, v: usize) -> bool
+    requires { Tabled s.now given.now × (u < given.now.n) × (v < given.now.n) }
+    ensures { Told (Bare (shape_of s.now) (registers_in s.now) u v (registers_at given.now u v) (delay_at given.now u v)) result }
 {
-    if v != u {
-        return false;
-    }
-    if entry_at(registers, n, u, v) != 0 {
-        return false;
-    }
-    if entry_at(delays, n, u, v) != delay_of(s, u) {
-        return false;
-    }
-    true
+    let at = u * given.n + v;
+    v == u && given.registers[at] == 0 && given.delays[at] == delay_of(s, u)
 }
 
-// The wires of a best path from u to v, in path order, from the place given back to the list's end.
-pub fn trace(
-    s: &[u8],
-    n: usize,
-    registers: &[u32; 4096],
-    delays: &[u32; 4096],
-    u: usize,
-    v: usize,
-    wires: &mut [u16; 64],
-) -> usize
-    requires { Tabled s.now n registers.now delays.now × (u < n) × (v < n) × (get_or registers.now (u * n + v) 0 < 4294967295) × (length wires.old ≡ 64) }
-    ensures { (result ≤ 64) × (length wires.new ≡ 64) × Traced (shape_of s.now) (registers_in s.now) u v (get_or registers.now (u * n + v) 0) (get_or delays.now (u * n + v) 0) (drop result wires.new) }
+// The wires of a best path from u to v, in path order, at the end of the list lent.
+pub fn trace<'a>(s: &[u8], given: &Given, u: usize, v: usize, wires: &'a mut [u16; 64]) -> &'a [u16]
+    requires { Tabled s.now given.now × (u < given.now.n) × (v < given.now.n) × (registers_at given.now u v < 4294967295) × (length wires.old ≡ 64) }
+    ensures { Traced (shape_of s.now) (registers_in s.now) u v (registers_at given.now u v) (delay_at given.now u v) result.now }
 {
-    if bare(s, n, registers, delays, u, v) {
-        return 64;
+    if bare(s, given, u, v) {
+        return &wires[64..];
     }
     let mut b = v;
     let mut at = 64usize;
     loop {
-        let j = last_wire(s, n, registers, delays, u, b);
+        let j = last_wire(s, given, u, b);
         at -= 1;
         wires[at] = j as u16;
-        b = from_of(s, n, j);
+        b = from_of(s, given.n, j);
         if b == u {
-            return at;
+            return &wires[at..];
         }
     }
 }

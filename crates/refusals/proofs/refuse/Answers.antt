@@ -1,8 +1,14 @@
--- The lists are new.
-use mathlib.Core.Path.{refl}
-use Rattle.refusals.specs.Laws.Load.{new_room}
+-- Permitted lags first, then those that meet the period.
+use Rattle.std.proofs.Common.{subst}
+use Rattle.refusals.specs.Solving.{Hopeless}
+use Rattle.refusals.specs.Laws.Solving.{first_refuses, solved_rests, hopeless_rest}
 use Rattle.refusals.proofs.refuse.Goals as goal
 
-pub refuse_held-requires : goal.refuse_held-requires
-refuse_held-requires c = let p = c.requires in
-    record { sound_sheet = (p.0, p.1, p.2, new_room); par_value = (refl, refl, refl, refl, p.3, p.4, p.5) }
+pub returns-in-Err : goal.returns-in-Err
+returns-in-Err c = first_refuses c.args.lags.now _ c.in-Err.is c.args.aim c.load-given.ensures c.solve.ensures
+
+pub unreachable-requires : goal.unreachable-requires
+unreachable-requires c = hopeless_rest (subst (Hopeless _) c.in-Least.is c.requires.5) (solved_rests c.solve.ensures c.in_default.is).0
+
+pub returns : goal.returns
+returns c = rw c.in-At.is (rw (solved_rests c.solve.ensures c.in_default.is).1 at c.lags_within.ensures)

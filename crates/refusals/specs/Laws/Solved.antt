@@ -14,7 +14,11 @@ use Rattle.tables.specs.Laws.Entry.{entry_unique}
 use Rattle.moves.specs.Lags.{moved_by, InRange, Fits, Permitted, Meets}
 use Rattle.moves.specs.Laws.Lattice.{value}
 use Rattle.moves.specs.Laws.Written as L
-use Rattle.solver.specs.System.{Given, Rule, Rule.path, Rule.wire, Rule.ceiling, Solution, tabled}
+use Rattle.solver.specs.declared.Given.{Given}
+use Rattle.solver.specs.declared.Standing.{Standing}
+use Rattle.solver.specs.declared.Rule.{Rule}
+use Rattle.solver.specs.declared.Rule.TheVariants as R
+use Rattle.solver.specs.System.{Says, path, wire, ceiling, Solution, tabled}
 use Rattle.solver.specs.State.{State, AllHold}
 use Rattle.solver.specs.Laws.Begun.{rest_solves}
 use Rattle.witness.specs.Stands.{Stands}
@@ -66,9 +70,9 @@ module _ {s : List ℕ} {g : Given} (S : Stands s g) where
     to_lt : (j : ℕ) → j < wires_in s → (core_of s).shape.to j < g.n
     to_lt j h = omega (arith, S.n_is, formed.to_block j h)
 
-    kept : (i a b k : ℕ) → Rule g i a b k → excess (r a) + 32768 ≤ excess (r b) + k
-    kept i a b k (path ei ha hb hd ek) = rw ek (kept_path a b _ _ ha hb (entry_slow a b ha hb hd) hd)
-    kept i a b k (wire j hj ei ea eb ek) =
+    kept : (q : Rule) (a b k : ℕ) → Says g q a b k → excess (r a) + 32768 ≤ excess (r b) + k
+    kept q a b k (path ei ha hb hd ek) = rw ek (kept_path a b _ _ ha hb (entry_slow a b ha hb hd) hd)
+    kept q a b k (wire j hj ei ea eb ek) =
         let h : j < wires_in s = omega (arith, S.m_is) in
         let u = (core_of s).shape.from j in
         let v = (core_of s).shape.to j in
@@ -82,7 +86,7 @@ module _ {s : List ℕ} {g : Given} (S : Stands s g) where
           value (core_of s) j r,
           le_parts (pos 0) (moved_by (core_of s) r j) (K.permitted.fits j h).0,
         )
-    kept i a b k (ceiling j hj ei ea eb ek) =
+    kept q a b k (ceiling j hj ei ea eb ek) =
         let h : j < wires_in s = omega (arith, S.m_is) in
         let u = (core_of s).shape.from j in
         let v = (core_of s).shape.to j in
@@ -130,7 +134,7 @@ module _ {s : List ℕ} {g : Given} (S : Stands s g) where
           parts_le (pos 0) (moved_by (core_of s) lags j)
               (omega (
                 arith,
-                X.keeps (2 + j) (get_or g.from j 0) (get_or g.to j 0) (get_or g.wires j 0) (wire j l refl refl refl refl),
+                X.keeps (R.Wire j) (get_or g.from j 0) (get_or g.to j 0) (get_or g.wires j 0) (wire j l refl refl refl refl),
                 eu,
                 ev,
                 S.wires_is j h,
@@ -141,7 +145,7 @@ module _ {s : List ℕ} {g : Given} (S : Stands s g) where
           parts_le (moved_by (core_of s) lags j) (pos ((core_of s).ceiling j))
               (omega (
                 arith,
-                X.keeps (258 + j) (get_or g.to j 0) (get_or g.from j 0) (get_or g.ceilings j 0) (ceiling j l refl refl refl refl),
+                X.keeps (R.Ceiling j) (get_or g.to j 0) (get_or g.from j 0) (get_or g.ceilings j 0) (ceiling j l refl refl refl refl),
                 eu,
                 ev,
                 S.ceilings_is j h,
@@ -163,7 +167,7 @@ module _ {s : List ℕ} {g : Given} (S : Stands s g) where
           parts_le (lags u -ℤ lags v) (pos W -ℤ pos 1)
           (omega (
             arith,
-            X.keeps 1 u v (W + 32767) (path refl hu hv (omega (arith, e.1)) (omega (arith, e.0))),
+            X.keeps R.Path u v (W + 32767) (path refl hu hv (omega (arith, e.1)) (omega (arith, e.0))),
             sub_parts (x u) 32768,
             sub_parts (x v) 32768,
             minus (lags u) (lags v),
@@ -177,19 +181,19 @@ module _ {s : List ℕ} {g : Given} (S : Stands s g) where
       meets_of = keeps_meets (core_of s) g.period lags _ _ T keeps_of
 
   -- ---- at rest the lags are permitted, and with a path table the largest
-  pub rest_permitted : {e par up' : List ℕ} → State g e par up' → AllHold g e → Permitted (core_of s) (λ b. lag_of (get_or e b 0))
-  rest_permitted {e} St all = permitted_of (λ b. get_or e b 0) (rest_solves St all)
+  module _ {t : Standing} (St : State g t) (all : AllHold g t.lags) where
+    pub rest_permitted : Permitted (core_of s) (λ b. lag_of (get_or t.lags b 0))
+    rest_permitted = permitted_of (λ b. get_or t.lags b 0) (rest_solves St all)
 
-  pub rest_largest : {e par up' : List ℕ} → Table (shape_of s) (registers_in s) g.registers g.delays → State g e par up' → AllHold g e
-      → Largest (core_of s) g.period (λ b. lag_of (get_or e b 0))
-  rest_largest {e} T St all = record {
-    meets = meets_of (λ b. get_or e b 0) (rest_solves St all) T;
-    largest = λ q m b h.
-        let K = meets_keeps (core_of s) g.period q m in
-        let k : b < g.n = omega (arith, S.n_is) in
-        parts_le (q b) (lag_of (get_or e b 0))
-        (omega (arith, St.most (λ i. excess (q i)) (solution_of q K) b k, lag_parts q K b k, sub_parts (get_or e b 0) 32768));
-  }
+    pub rest_largest : Table (shape_of s) (registers_in s) g.registers g.delays → Largest (core_of s) g.period (λ b. lag_of (get_or t.lags b 0))
+    rest_largest T = record {
+      meets = meets_of (λ b. get_or t.lags b 0) (rest_solves St all) T;
+      largest = λ q m b h.
+          let K = meets_keeps (core_of s) g.period q m in
+          let k : b < g.n = omega (arith, S.n_is) in
+          parts_le (q b) (lag_of (get_or t.lags b 0))
+          (omega (arith, St.most (λ i. excess (q i)) (solution_of q K) b k, lag_parts q K b k, sub_parts (get_or t.lags b 0) 32768));
+    }
 
   -- ---- a path table, for another period
   pub stands_with : (q : ℕ) (registers delays : List ℕ) → Table (shape_of s) (registers_in s) registers delays → Stands s (tabled g q registers delays)

@@ -5,12 +5,16 @@ use Rattle.std.proofs.Common.{ap, arith}
 use Rattle.std.proofs.Math.Decide.{ℕ_discrete, dec_lt}
 use Rattle.std.proofs.lemmas.List.{get_or-replicate, length-replicate}
 use Rattle.std.proofs.Math.ListN.{get_or-eq_default}
-use Rattle.solver.specs.System.{Given, Rule, Rule.path, Rule.wire, Rule.ceiling, Link, Link.rule, Link.upper, Fit, Solution, tabled, Within}
+use Rattle.solver.specs.declared.Given.{Given}
+use Rattle.solver.specs.declared.Standing.{Standing}
+use Rattle.solver.specs.declared.Rule.{Rule}
+use Rattle.solver.specs.declared.Rule.TheVariants as R
+use Rattle.solver.specs.System.{Says, path, wire, ceiling, Link, rule, upper, Fit, Solution, tabled, Within}
 use Rattle.solver.specs.Walk.{Depth, Rooted}
 use Rattle.solver.specs.State.{State, AllHold}
 
--- no links yet: every block is held by its upper limit (number 0), which leads to the host
-abbrev pub none : List ℕ
+-- no links yet: every block is held by its upper limit, which leads to the host
+abbrev none : List ℕ
 none = replicate 64 0
 
 -- no path table yet
@@ -40,45 +44,45 @@ module _ {g : Given} (F : Fit g) where
       go v h (yes z) = (0, z)
       go v h (no nz) = (1, (nz, none_at v h))
 
-  pub begun : State g g.upper none none
+  pub begun : State g (record { lags = g.upper; next = none; rules = replicate 64 R.Limit })
   begun =
       record {
         fit = F;
-        e_long = F.upper_long;
-        par_long = length-replicate {A = ℕ} 64 0;
-        up_long = length-replicate {A = ℕ} 64 0;
+        lags_long = F.upper_long;
+        next_long = length-replicate {A = ℕ} 64 0;
+        rules_long = length-replicate {A = Rule} 64 R.Limit;
         most = λ s sol v h. sol.high v h;
         low = λ v h. F.ordered v h;
         high = λ v h. omega arith;
         rooted = none_rooted;
         held = λ v h. (
           get_or g.upper v 0,
-          upper (none_at v h) (none_at v h) refl,
+          upper (get_or-replicate 64 v R.Limit R.Limit (omega (arith, F.few_blocks))) (none_at v h) refl,
           omega (arith, ap (λ (u : ℕ). get_or g.upper u 0) (none_at v h), F.host_upper),
         );
       }
 
 -- ---- a path table and a period, where there was no path rule: rules are added, none is taken away
 module _ {g : Given} (quick : Within g.delays g.period) (p : ℕ) (registers delays : List ℕ) where
-  rule_stays : {i a b k : ℕ} → Rule g i a b k → Rule (tabled g p registers delays) i a b k
+  rule_stays : {r : Rule} {a b k : ℕ} → Says g r a b k → Says (tabled g p registers delays) r a b k
   rule_stays {a = a} {b = b} (path ei ha hb hd ek) = absurd (omega (arith, quick.all (a * g.n + b)))
   rule_stays (wire j hj ei ea eb ek) = wire j hj ei ea eb ek
   rule_stays (ceiling j hj ei ea eb ek) = ceiling j hj ei ea eb ek
 
-  link_stays : {i a b k : ℕ} → Link g i a b k → Link (tabled g p registers delays) i a b k
+  link_stays : {r : Rule} {a b k : ℕ} → Link g r a b k → Link (tabled g p registers delays) r a b k
   link_stays (rule r) = rule (rule_stays r)
   link_stays (upper ei eb ek) = upper ei eb ek
 
   solution_stays : {s : ℕ → ℕ} → Solution (tabled g p registers delays) s → Solution g s
-  solution_stays sol = record { keeps = λ i a b k r. sol.keeps i a b k (rule_stays r); low = sol.low; high = sol.high }
+  solution_stays sol = record { keeps = λ r a b k l. sol.keeps r a b k (rule_stays l); low = sol.low; high = sol.high }
 
-  pub state_stays : {e par up : List ℕ} → Fit (tabled g p registers delays) → State g e par up → State (tabled g p registers delays) e par up
+  pub state_stays : {t : Standing} → Fit (tabled g p registers delays) → State g t → State (tabled g p registers delays) t
   state_stays F St =
       record {
         fit = F;
-        e_long = St.e_long;
-        par_long = St.par_long;
-        up_long = St.up_long;
+        lags_long = St.lags_long;
+        next_long = St.next_long;
+        rules_long = St.rules_long;
         most = λ s sol. St.most s (solution_stays sol);
         low = St.low;
         high = St.high;
@@ -87,5 +91,5 @@ module _ {g : Given} (quick : Within g.delays g.period) (p : ℕ) (registers del
       }
 
 -- ---- at rest the lags are a solution, and the largest
-pub rest_solves : {g : Given} {e par up : List ℕ} → State g e par up → AllHold g e → Solution g (λ b. get_or e b 0)
+pub rest_solves : {g : Given} {t : Standing} → State g t → AllHold g t.lags → Solution g (λ b. get_or t.lags b 0)
 rest_solves St all = record { keeps = all; low = St.low; high = St.high }

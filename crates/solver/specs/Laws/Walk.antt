@@ -4,7 +4,7 @@ use Rattle.std.specs.Prelude.{ℕ, zero, suc, ◌+◌, ◌<◌, ◌≤◌, ◌�
 use Rattle.std.proofs.Common.{ap, sym, subst, ◌∙◌, arith, add-one, below_more, length-set, get_or-set_same, get_or-set_other}
 use Rattle.std.proofs.Math.Decide.{ℕ_discrete}
 use Rattle.std.proofs.lemmas.List.{get_or-replicate, length-replicate}
-use Rattle.solver.specs.Walk.{Depth, Rooted, iter, Met}
+use Rattle.solver.specs.Walk.{Depth, Rooted, iter, Past, Met}
 use Rattle.sheet.specs.Laws.Sum.{sum, sum_set}
 
 pub iter_in : (n : ℕ) (par : List ℕ) → Rooted n par → (v : ℕ) → v < n → (k : ℕ) → iter par k v < n
@@ -79,7 +79,7 @@ pub record Walking (n : ℕ) (par : List ℕ) (a b v k : ℕ) : Type 0 where
   pub back : (x d : ℕ) → Depth (set par a x) d v → (d' : ℕ) × Depth (set par a x) d' b
   pub more : (d : ℕ) → Depth par d v → k + d < n
   pub apart : b ≡ a → v ≡ a
-  pub past : (j : ℕ) → j < k → (iter par j b ≡ a → ⊥) × (iter par j b ≡ 0 → ⊥)
+  pub past : Past par a b k
 
 pub walk_start : (n : ℕ) (par : List ℕ) (a b : ℕ) → Rooted n par → b < n → Walking n par a b b 0
 walk_start n par a b R h =
@@ -107,10 +107,10 @@ module _ {n : ℕ} {par : List ℕ} {a b v k : ℕ} (R : Rooted n par) (W : Walk
       }
 
   pub walk_hit : v ≡ a → Met par a b true
-  walk_hit q = record { steps = k; there = W.here ∙ q; before = λ j lt. (W.past j lt).1 }
+  walk_hit q = record { steps = k; there = W.here ∙ q; past = W.past }
 
   pub walk_end : (v ≡ a → ⊥) → v ≡ 0 → Met par a b false
-  walk_end na z = record { apart = λ q. na (W.apart q); rooted = λ x. W.back x 0 z }
+  walk_end na z = record { apart = λ q. na (W.apart q); rooted = λ x. W.back x 0 z; steps = k; there = W.here ∙ z; past = W.past }
 
   pub walk_over : n ≤ k → ⊥
   walk_over le = let q = R.ends v W.inside in omega (arith, W.more q.0 q.1)

@@ -13,6 +13,8 @@ use Rattle.paths.specs.Laws.Pigeons.{NotIn, NoDup, AllBelow, pigeons}
 use Rattle.loops.specs.Link.{Link, wire, path, upper, lower, ceiling, words_of, all_words, link_a, link_b, Good, Chain, NoPath}
 use Rattle.loops.specs.Laws.Chain.{chain_append, sum_snoc}
 use Rattle.loops.specs.Laws.Words.{words_append}
+use Rattle.solver.specs.declared.Rule.{Rule}
+use Rattle.solver.specs.declared.Rule.TheVariants as R
 use Rattle.witness.specs.Written.{LinkWritten}
 use Rattle.witness.specs.Walked.{NoneSlow, Linked}
 use Rattle.witness.specs.Laws.Sets.{sets_append}
@@ -59,9 +61,9 @@ module _ (c : Core) where
   linked_none p start bottom w = record { words_are = refl; at_is = refl; few = omega arith; chain = refl; sum = omega arith; once = tt; plain = λ _. tt }
 
   module _ (p start v top bottom : ℕ) (ls : List Link) (w w' : List ℕ) (at : ℕ) (h : Linked c p start v top bottom ls w w' at) where
-    pub linked_next : (i b : ℕ) (z : ℤ) (w'' : List ℕ) (r top' : ℕ) (x : LinkWritten c p i v b z w' w'' at r) → top' + up z ≤ top + down z
-        → NotIn v (map (link_a c) ls) → (NoneSlow c p → i ≡ 1 → ⊥) → Linked c p start b top' bottom (ls ++ (x.link ∷ [])) w w'' r
-    linked_next i b z w'' r top' x k f q =
+    pub linked_next : (r : Rule) (b : ℕ) (z : ℤ) (w'' : List ℕ) (next top' : ℕ) (x : LinkWritten c p r v b z w' w'' at next) → top' + up z ≤ top + down z
+        → NotIn v (map (link_a c) ls) → (NoneSlow c p → r ≡ R.Path → ⊥) → Linked c p start b top' bottom (ls ++ (x.link ∷ [])) w w'' next
+    linked_next r b z w'' next top' x k f q =
         let l = x.link in
         let long = ap length (words_snoc ls l) ∙ length-append (all_words ls) (words_of l) in
         record {
@@ -70,8 +72,8 @@ module _ (c : Core) where
               ∙ ap (λ (xs : List ℕ). sets xs at (words_of l)) h.words_are
               ∙ sets_append w (all_words ls) (words_of l) 0 at (omega (arith, h.at_is))
               ∙ ap (λ (xs : List ℕ). sets w 0 xs) (sym (words_snoc ls l));
-          at_is = omega (arith, x.next, h.at_is, long);
-          few = omega (arith, x.next, x.few, h.few, row_more (length ls) (length (ls ++ (l ∷ []))) (c.shape.n + 2) (length-append ls (l ∷ [])));
+          at_is = omega (arith, x.next_is, h.at_is, long);
+          few = omega (arith, x.next_is, x.few, h.few, row_more (length ls) (length (ls ++ (l ∷ []))) (c.shape.n + 2) (length-append ls (l ∷ [])));
           chain = chain_append c p start ls v (l ∷ []) b h.chain (x.a_is, x.good, x.b_is);
           sum = omega (arith, h.sum, sum_snoc c p ls l, ap up x.k_is, ap down x.k_is);
           once = once_snoc ls l h.once (rw x.a_is f);

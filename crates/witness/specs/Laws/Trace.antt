@@ -1,6 +1,6 @@
 -- A wire that completes an entry by its numbers leads back from a best entry, and a path found backward is short.
 -- Assumes nothing.
-use Rattle.std.specs.Prelude.{◌≡◌, refl, ◌⊎◌, List, [], ◌∷◌, ◌++◌, ℕ, suc, ◌+◌, ◌*◌, ◌≤◌, ◌<◌, length, get_or, set, drop}
+use Rattle.std.specs.Prelude.{◌≡◌, refl, ◌⊎◌, List, [], ◌∷◌, ◌++◌, ℕ, suc, ◌+◌, ◌*◌, ◌≤◌, ◌<◌, length, set, drop}
 use Rattle.std.proofs.Common.{sym, ap, ◌∙◌, subst, inl, inr, arith, length-append, length-drop, length-set, drop_of_length-le, drop-cons, get_or-set_same, drop-set-lt}
 use Rattle.std.proofs.Math.Decide.{ℕ_discrete}
 use Rattle.sheet.specs.Core.{Shape, wires_in, delay_in, from_in, registers_in, shape_of}
@@ -11,7 +11,8 @@ use Rattle.paths.specs.Laws.Path.{passes_all, joins_append, joins_start_lt, join
 use Rattle.tables.specs.Back.{Completed}
 use Rattle.tables.specs.Laws.Entry.{entry_unique, fewest_short, backward}
 use Rattle.paths.specs.Laws.Parts.{row_before, square_small}
-use Rattle.witness.specs.Trace.{Tabled, Based, NoneBefore, Bare, Apart, Traced, Suffix, Tracing}
+use Rattle.solver.specs.declared.Given.{Given}
+use Rattle.witness.specs.Trace.{registers_at, delay_at, Tabled, Based, NoneBefore, Bare, Apart, Traced, Suffix, Tracing}
 
 -- an entry of a table of n blocks is inside 4,096
 pub entry_in : (n u v : ℕ) → n ≤ 64 → u < n → v < n → u * n + v < 4096
@@ -91,23 +92,23 @@ module _ (s : Shape) (w : ℕ → ℕ) where
     search_short free b far = let q = backward s w free u v W D b far in omega (arith, h q.0 q.1, q.1.wire_lt)
 
 -- ---- on a sheet, by the numbers that code holds
-module _ (s : List ℕ) (n : ℕ) (registers delays : List ℕ) (t : Tabled s n registers delays) where
-  pub entry_of : (u v : ℕ) → u < n → v < n → Entry (shape_of s) (registers_in s) u v (get_or registers (u * n + v) 0) (get_or delays (u * n + v) 0)
+module _ (s : List ℕ) (g : Given) (t : Tabled s g) where
+  pub entry_of : (u v : ℕ) → u < g.n → v < g.n → Entry (shape_of s) (registers_in s) u v (registers_at g u v) (delay_at g u v)
   entry_of u v k l = rw t.n_is (t.table u v (omega (arith, t.n_is)) (omega (arith, t.n_is)))
 
-  pub best_of : (u v : ℕ) → u < n → v < n → get_or registers (u * n + v) 0 < 4294967295 → Best (shape_of s) (registers_in s) u v (get_or registers (u * n + v) 0) (get_or delays (u * n + v) 0)
+  pub best_of : (u v : ℕ) → u < g.n → v < g.n → registers_at g u v < 4294967295 → Best (shape_of s) (registers_in s) u v (registers_at g u v) (delay_at g u v)
   best_of u v k l h = entry_best (shape_of s) (registers_in s) u v _ _ (entry_of u v k l) h
 
   -- ---- the wires found, in path order
-  module _ (u v : ℕ) (k : u < n) (l : v < n) where
-    pub bare_traced : (wires : List ℕ) → length wires ≡ 64 → Bare (shape_of s) (registers_in s) u v (get_or registers (u * n + v) 0) (get_or delays (u * n + v) 0)
-        → Traced (shape_of s) (registers_in s) u v (get_or registers (u * n + v) 0) (get_or delays (u * n + v) 0) (drop 64 wires)
+  module _ (u v : ℕ) (k : u < g.n) (l : v < g.n) where
+    pub bare_traced : (wires : List ℕ) → length wires ≡ 64 → Bare (shape_of s) (registers_in s) u v (registers_at g u v) (delay_at g u v)
+        → Traced (shape_of s) (registers_in s) u v (registers_at g u v) (delay_at g u v) (drop 64 wires)
     bare_traced wires e h =
         rw (drop_of_length-le wires {i = 64} (omega arith))
         (record { joins = (omega (arith, t.n_is), sym h.0); registers_is = sym h.1; delay_is = sym h.2; short = omega (arith, t.n_is) })
 
-    pub tracing_start : (wires : List ℕ) → length wires ≡ 64 → get_or registers (u * n + v) 0 < 4294967295 → Apart (shape_of s) (registers_in s) u v (get_or registers (u * n + v) 0) (get_or delays (u * n + v) 0)
-        → Tracing s n registers delays u v v 64 wires
+    pub tracing_start : (wires : List ℕ) → length wires ≡ 64 → registers_at g u v < 4294967295 → Apart (shape_of s) (registers_in s) u v (registers_at g u v) (delay_at g u v)
+        → Tracing s g u v v 64 wires
     tracing_start wires e small far =
         let b = best_of u v k l small in
         record {
@@ -120,7 +121,7 @@ module _ (s : List ℕ) (n : ℕ) (registers delays : List ℕ) (t : Tabled s n 
               (record { whole = b; front = b; joins = (omega (arith, t.n_is), refl); registers_is = omega arith; delay_is = omega arith });
         }
 
-    module _ (b at : ℕ) (wires : List ℕ) (h : Tracing s n registers delays u v b at wires) where
+    module _ (b at : ℕ) (wires : List ℕ) (h : Tracing s g u v b at wires) where
       pub tracing_room : 0 < at
       tracing_room =
           omega (
@@ -132,7 +133,7 @@ module _ (s : List ℕ) (n : ℕ) (registers delays : List ℕ) (t : Tabled s n 
             suffix_short (shape_of s) (registers_in s) t.sound.free u v _ _ b _ _ (drop at wires) h.suffix,
           )
 
-      module _ (j : ℕ) (c : Completed (shape_of s) (registers_in s) u b (get_or registers (u * n + b) 0) (get_or delays (u * n + b) 0) j) (at' : ℕ) (e : at' + 1 ≡ at) where
+      module _ (j : ℕ) (c : Completed (shape_of s) (registers_in s) u b (registers_at g u b) (delay_at g u b) j) (at' : ℕ) (e : at' + 1 ≡ at) where
         stored : drop at' (set wires at' j) ≡ j ∷ drop at wires
         stored =
             let i : at' < length wires = omega (arith, h.place, h.long) in
@@ -143,7 +144,7 @@ module _ (s : List ℕ) (n : ℕ) (registers delays : List ℕ) (t : Tabled s n 
             ∙ ap (λ (x : ℕ). j ∷ drop x wires) q
 
         module _ (b' : ℕ) (q : b' ≡ from_in s j) where
-          pub tracing_next : b' < n → (b' ≡ u → ⊥) → Tracing s n registers delays u v b' at' (set wires at' j)
+          pub tracing_next : b' < g.n → (b' ≡ u → ⊥) → Tracing s g u v b' at' (set wires at' j)
           tracing_next i f = record {
             inside = i;
             place = omega (arith, h.place);
@@ -154,19 +155,19 @@ module _ (s : List ℕ) (n : ℕ) (registers delays : List ℕ) (t : Tabled s n 
                 (suffix_next (shape_of s) (registers_in s) t.sound.free u v _ _ b _ _ (drop at wires) h.suffix j c _ _ (λ z. f (q ∙ z)) (entry_of u (from_in s j) k (rw q at i)));
           }
 
-          pub tracing_end : b' ≡ u → Traced (shape_of s) (registers_in s) u v (get_or registers (u * n + v) 0) (get_or delays (u * n + v) 0) (drop at' (set wires at' j))
+          pub tracing_end : b' ≡ u → Traced (shape_of s) (registers_in s) u v (registers_at g u v) (delay_at g u v) (drop at' (set wires at' j))
           tracing_end z = rw stored (suffix_ends (shape_of s) (registers_in s) t.sound.free u v _ _ b _ _ (drop at wires) h.suffix j c (sym q ∙ z))
 
   module _ (u v W D j : ℕ) (f t' w : ℕ) (x : WireIs s j f t' w) where
     pub other_end : (t' ≡ v → ⊥) → Completed (shape_of s) (registers_in s) u v W D j → ⊥
     other_end bad c = bad (x.to_is ∙ c.end)
 
-    module _ (k : u < n) where
-      from_entry : Entry (shape_of s) (registers_in s) u f (get_or registers (u * n + f) 0) (get_or delays (u * n + f) 0)
+    module _ (k : u < g.n) where
+      from_entry : Entry (shape_of s) (registers_in s) u f (registers_at g u f) (delay_at g u f)
       from_entry = entry_of u f k (omega (arith, x.from_block, t.n_is))
 
       -- what stands at the wire's start, by its numbers
-      module _ (bw : ℕ) (hw : Based 0 u f (get_or registers (u * n + f) 0) bw) where
+      module _ (bw : ℕ) (hw : Based 0 u f (registers_at g u f) bw) where
         start_registers : (W' D' : ℕ) → ((from_in s j ≡ u) × (W' ≡ 0) × (D' ≡ delay_in s u)) ⊎ ((from_in s j ≡ u → ⊥) × Best (shape_of s) (registers_in s) u (from_in s j) W' D') → W' ≡ bw
         start_registers W' D' (inl q) = q.1 ∙ sym (hw.0 (x.from_is ∙ q.0))
         start_registers W' D' (inr q) =
@@ -175,7 +176,7 @@ module _ (s : List ℕ) (n : ℕ) (registers delays : List ℕ) (t : Tabled s n 
         pub other_registers : (W' : ℕ) → W' ≡ W → (W' ≡ bw + w → ⊥) → Completed (shape_of s) (registers_in s) u v W D j → ⊥
         other_registers W' e bad c = bad (omega (arith, c.registers_is, start_registers c.registers c.delay c.base, x.registers_is))
 
-        module _ (bd : ℕ) (hd : Based (delay_in s u) u f (get_or delays (u * n + f) 0) bd) where
+        module _ (bd : ℕ) (hd : Based (delay_in s u) u f (delay_at g u f) bd) where
           start_delay : (W' D' : ℕ) → ((from_in s j ≡ u) × (W' ≡ 0) × (D' ≡ delay_in s u)) ⊎ ((from_in s j ≡ u → ⊥) × Best (shape_of s) (registers_in s) u (from_in s j) W' D') → D' ≡ bd
           start_delay W' D' (inl q) = q.2 ∙ sym (hd.0 (x.from_is ∙ q.0))
           start_delay W' D' (inr q) =

@@ -1,6 +1,6 @@
 -- From where the solver is stuck, the walk of links closes a loop.
 -- Assumes nothing.
-use Rattle.std.specs.Prelude.{◌≡◌, refl, ◌⊎◌, ℕ, zero, suc, ◌+◌, ◌*◌, ◌≤◌, ◌<◌, ℤ, neg_ℤ, length, get_or, take}
+use Rattle.std.specs.Prelude.{◌≡◌, refl, ◌⊎◌, true, false, ℕ, zero, suc, ◌+◌, ◌*◌, ◌≤◌, ◌<◌, ℤ, neg_ℤ, length, get_or, take}
 use Rattle.std.proofs.Common.{sym, ap, ◌∙◌, subst, inl, inr, arith, mul-le-mul}
 use mathlib.Core.List.{List, [], ◌∷◌, ◌++◌, map}
 use Rattle.std.proofs.Math.Decide.{ℕ_discrete, dec_lt}
@@ -13,14 +13,18 @@ use Rattle.sheet.specs.Laws.Sheet.{lower_parts}
 use Rattle.paths.specs.Laws.Pigeons.{NotIn}
 use Rattle.loops.specs.Link.{Link, lower, all_words, link_a, sum_k, ValidLoop}
 use Rattle.loops.specs.Laws.Chain.{parts_negative}
-use Rattle.solver.specs.System.{Given}
+use Rattle.solver.specs.declared.Given.{Given}
+use Rattle.solver.specs.declared.Standing.{Standing}
+use Rattle.solver.specs.declared.Broken.{Broken}
+use Rattle.solver.specs.declared.Rule.{Rule}
+use Rattle.solver.specs.declared.Rule.TheVariants as R
 use Rattle.solver.specs.System as S
-use Rattle.solver.specs.Walk.{Depth, Rooted, iter, Hit}
-use Rattle.solver.specs.Laws.Walk.{iter_in, short, distinct, walk_start, walk_step}
+use Rattle.solver.specs.Walk.{Depth, Rooted, iter, Hit, Met}
+use Rattle.solver.specs.Laws.Walk.{iter_in, short, distinct}
 use Rattle.witness.specs.Stands.{Slow}
 use Rattle.witness.specs.Trace.{Tabled, Known}
 use Rattle.witness.specs.Written.{Asked, for_upper, for_path, for_wire, for_ceiling, LinkWritten, LoopWritten}
-use Rattle.witness.specs.Walked.{Halted, Ends, OnWalk, far, NoneSlow, Linked, Walked, Begun}
+use Rattle.witness.specs.Walked.{Halted, Ends, far, NoneSlow, Linked, Walked, Begun}
 use Rattle.witness.specs.Laws.Sets.{sets_front, sets_kept}
 use Rattle.witness.specs.Laws.Link.{asked_a, asked_b}
 use Rattle.witness.specs.Laws.Asked.{Bound, link_slow, rule_asked, link_asked}
@@ -43,221 +47,213 @@ far_less n most par R m v h nz = let q = R.ends v h in go q.0 q.1
         let l = short n par R (suc d) v h p in
         omega (arith, far_depth par most (suc d) v p (omega arith), far_depth par most d (get_or par v 0) p.1 (omega arith))
 
--- ---- where the walk ends
-pub on_start : (par : List ℕ) (a b n : ℕ) → Rooted n par → n ≤ 64 → b < n → OnWalk par a b b
-on_start par a b n R m h = record { n = n; k = 0; few = m; rooted = R; walking = walk_start n par a b R h }
+-- ---- where the walk ends, as the test of it says
+pub ends_met : {par : List ℕ} {a b : ℕ} → Met par a b true → Ends par a b a
+ends_met h = record { steps = h.steps; there = h.there; past = h.past; host = λ f. absurd (f refl) }
 
-module _ (par : List ℕ) (a b v : ℕ) (W : OnWalk par a b v) where
-  pub on_in : v < 64
-  on_in = omega (arith, W.few, W.walking.inside)
-
-  pub on_host : v ≡ 0 → Ends par a b 0
-  on_host z = record { steps = W.k; there = W.walking.here ∙ z; past = W.walking.past; host = λ _. refl }
-
-  pub on_met : v ≡ a → Ends par a b a
-  on_met q = record { steps = W.k; there = W.walking.here ∙ q; past = W.walking.past; host = λ f. absurd (f refl) }
-
-  module _ (nz : v ≡ 0 → ⊥) (v' : ℕ) (e : v' ≡ get_or par v 0) where
-    pub on_less : far 64 par v' < far 64 par v
-    on_less = rw e (far_less W.n 64 par W.rooted W.few v W.walking.inside nz)
-
-    pub on_next : (v ≡ a → ⊥) → OnWalk par a b v'
-    on_next na = rw e (record { n = W.n; k = W.k + 1; few = W.few; rooted = W.rooted; walking = walk_step W.rooted W.walking na nz })
+pub ends_missed : {par : List ℕ} {a b : ℕ} → Met par a b false → Ends par a b 0
+ends_missed h = record { steps = h.steps; there = h.there; past = h.past; host = λ _. refl }
 
 -- ---- a link that is asked for is of kind 2 only where a path is too slow
-asked_slow : (c : Core) (p i a b : ℕ) (z : ℤ) → Asked c p i a b z → NoneSlow c p → i ≡ 1 → ⊥
-asked_slow c p i a b z (for_upper e l x q) none h = omega arith
-asked_slow c p i a b z (for_path e W D x l q) none h = none a b W D x l
-asked_slow c p i a b z (for_wire j l e x y q) none h = omega arith
-asked_slow c p i a b z (for_ceiling j l e x y q) none h = omega arith
+asked_slow : (c : Core) (p : ℕ) (r : Rule) (a b : ℕ) (z : ℤ) → Asked c p r a b z → NoneSlow c p → r ≡ R.Path → ⊥
+asked_slow c p r a b z (for_upper e l x q) none h = cc
+asked_slow c p r a b z (for_path e W D x l q) none h = none a b W D x l
+asked_slow c p r a b z (for_wire j l e x y q) none h = cc
+asked_slow c p r a b z (for_ceiling j l e x y q) none h = cc
 
-module _ (s : List ℕ) (n : ℕ) (registers delays par ups : List ℕ) (i a b : ℕ) (g : Given) (e : List ℕ) (h : Halted s n registers delays par ups i a b g e) where
-  blocks : n ≡ blocks_in s
-  blocks = h.n_is ∙ h.stands.n_is
+module _ {s : List ℕ} {g : Given} {t : Standing} {x : Broken} (h : Halted s g t x) where
+  pub blocks : g.n ≡ blocks_in s
+  blocks = h.stands.n_is
 
-  pub few_blocks : n ≤ 64
-  few_blocks = omega (arith, blocks, h.stands.sound.formed.framed.few_blocks)
+  pub few_blocks : g.n ≤ 64
+  few_blocks = h.state.fit.few_blocks
 
-  halted_table : Slow g → Tabled s n registers delays
+  halted_table : Slow g → Tabled s g
   halted_table slow = record {
     sound = h.stands.sound;
     n_is = blocks;
-    registers_long = ap length (sym h.registers_are) ∙ h.state.fit.registers_long;
-    delays_long = ap length (sym h.delays_are) ∙ h.state.fit.delays_long;
-    table = rw (h.registers_are, h.delays_are) at (h.stands.table slow);
+    m_is = h.stands.m_is;
+    registers_long = h.state.fit.registers_long;
+    delays_long = h.state.fit.delays_long;
+    table = h.stands.table slow;
   }
 
-  pub halted_knows : (j x y k : ℕ) → S.Link g j x y k → Known s n registers delays j
-  halted_knows j x y k l = record { sound = h.stands.sound; tabled = λ q. halted_table (link_slow g j x y k l q) }
+  pub halted_knows : (r : Rule) (a b k : ℕ) → S.Link g r a b k → Known s g r
+  halted_knows r a b k l = record { sound = h.stands.sound; tabled = λ q. halted_table (link_slow g r a b k l q) }
 
   formed : Formed (core_of s)
   formed = formed_core s h.stands.sound.formed
 
-  pub rule_bound : Bound s g i a b h.stuck.k
-  rule_bound = rule_asked s g h.stands i a b h.stuck.k h.stuck.rule
+  pub rule_bound : Bound s g x.rule x.a x.b h.stuck.k
+  rule_bound = rule_asked s g h.stands x.rule x.a x.b h.stuck.k h.stuck.says
 
-  pub a_in : a < n
-  a_in = omega (arith, blocks, asked_a (core_of s) formed g.period i a b rule_bound.z rule_bound.asked)
+  pub a_in : x.a < g.n
+  a_in = omega (arith, blocks, asked_a (core_of s) formed g.period x.rule x.a x.b rule_bound.z rule_bound.asked)
 
-  pub b_in : b < n
-  b_in = omega (arith, blocks, asked_b (core_of s) formed g.period i a b rule_bound.z rule_bound.asked)
+  pub b_in : x.b < g.n
+  b_in = omega (arith, blocks, asked_b (core_of s) formed g.period x.rule x.a x.b rule_bound.z rule_bound.asked)
 
-  pub rooted : Rooted n par
-  rooted = rw h.n_is h.state.rooted
+  rooted : Rooted g.n t.next
+  rooted = h.state.rooted
 
-  pub held_bound : (v : ℕ) → (l : v < n) → Bound s g (get_or ups v 0) v (get_or par v 0) (h.state.held v (rw h.n_is at l)).0
-  held_bound v l = let l' : v < g.n = rw h.n_is at l in link_asked s g h.stands _ _ _ _ l' (h.state.held v l').1
+  pub held_bound : (v : ℕ) → (l : v < g.n) → Bound s g (get_or t.rules v R.Limit) v (get_or t.next v 0) (h.state.held v l).0
+  held_bound v l = link_asked s g h.stands _ _ _ _ l (h.state.held v l).1
 
-  host_lag : get_or e 0 0 ≡ 32768
+  host_lag : get_or t.lags 0 0 ≡ 32768
   host_lag =
       let l : 0 < g.n = h.state.fit.some_block in
       omega (arith, h.state.low 0 l, h.state.high 0 l, h.state.fit.host_lower, h.state.fit.host_upper)
 
-  module _ (start : ℕ) (ends : Ends par a b start) where
+  module _ (start : ℕ) (ends : Ends t.next x.a x.b start) where
     -- ---- the loop before its first rule
     pub record Begins (w w' : List ℕ) (at : ℕ) : Type 0 where
       pub links : List Link
       pub top : ℕ
-      pub linked : Linked (core_of s) g.period start a top (get_or e start 0) links w w' at
-      pub asks : get_or e b 0 + h.stuck.k < top + 32768
-      pub fresh : NotIn a (map (link_a (core_of s)) links)
-      pub others : (x : ℕ) → (x ≡ start → ⊥) → NotIn x (map (link_a (core_of s)) links)
+      pub linked : Linked (core_of s) g.period start x.a top (get_or t.lags start 0) links w w' at
+      pub asks : get_or t.lags x.b 0 + h.stuck.k < top + 32768
+      pub fresh : NotIn x.a (map (link_a (core_of s)) links)
+      pub others : (y : ℕ) → (y ≡ start → ⊥) → NotIn y (map (link_a (core_of s)) links)
+
+    -- the broken rule asks for less than the lower limit of its a
+    abbrev Under : Type 0
+    Under = get_or t.lags x.b 0 + h.stuck.k < get_or g.lower x.a 0 + 32768
 
     -- a walk that ends at the host before it meets a is none that meets a
-    falls_short : (start ≡ a → ⊥) → Hit par a b ⊎ (get_or e b 0 + h.stuck.k < get_or g.lower a 0 + 32768) → get_or e b 0 + h.stuck.k < get_or g.lower a 0 + 32768
+    falls_short : (start ≡ x.a → ⊥) → Hit t.next x.a x.b ⊎ Under → Under
     falls_short f (inr l) = l
-    falls_short f (inl t) = go (dec_lt ends.steps t.steps) (dec_lt t.steps ends.steps)
+    falls_short f (inl m) = go (dec_lt ends.steps m.steps) (dec_lt m.steps ends.steps)
       where
-        go : Dec (ends.steps < t.steps) → Dec (t.steps < ends.steps) → get_or e b 0 + h.stuck.k < get_or g.lower a 0 + 32768
-        go (yes l) d = absurd (t.before ends.steps l (ends.there ∙ ends.host f))
-        go (no l) (yes m) = absurd ((ends.past t.steps m).0 t.there)
-        go (no l) (no m) =
-            let q : t.steps ≡ ends.steps = omega arith in
-            absurd (f (sym ends.there ∙ ap (λ (x : ℕ). iter par x b) (sym q) ∙ t.there))
+        go : Dec (ends.steps < m.steps) → Dec (m.steps < ends.steps) → Under
+        go (yes l) d = absurd ((m.past ends.steps l).1 (ends.there ∙ ends.host f))
+        go (no l) (yes k) = absurd ((ends.past m.steps k).0 m.there)
+        go (no l) (no k) =
+            let q : m.steps ≡ ends.steps = omega arith in
+            absurd (f (sym ends.there ∙ ap (λ (y : ℕ). iter t.next y x.b) (sym q) ∙ m.there))
 
     -- the lower limit of a, as a link from the host
-    lower_written : (w w' : List ℕ) → w' ≡ sets w 0 (4 ∷ a ∷ []) → LinkWritten (core_of s) g.period 0 0 a (neg_ℤ (lower_in s a)) w w' 0 2
+    lower_written : (w w' : List ℕ) → w' ≡ sets w 0 (4 ∷ x.a ∷ []) → LinkWritten (core_of s) g.period R.Limit 0 x.a (neg_ℤ (lower_in s x.a)) w w' 0 2
     lower_written w w' q = record {
-      link = lower a;
+      link = lower x.a;
       good = omega (arith, blocks, a_in);
       a_is = refl;
       b_is = refl;
       k_is = refl;
       words_are = q;
-      next = refl;
+      next_is = refl;
       few = omega arith;
       plain = λ _. tt;
     }
 
-    lower_linked : (w w' : List ℕ) → w' ≡ sets w 0 (4 ∷ a ∷ []) → Linked (core_of s) g.period 0 a (get_or g.lower a 0) (get_or e 0 0) (lower a ∷ []) w w' 2
+    lower_linked : (w w' : List ℕ) → w' ≡ sets w 0 (4 ∷ x.a ∷ []) → Linked (core_of s) g.period 0 x.a (get_or g.lower x.a 0) (get_or t.lags 0 0) (lower x.a ∷ []) w w' 2
     unfolding lower_written
     lower_linked w w' q =
+        let a = x.a in
         let l : a < blocks_in s = omega (arith, blocks, a_in) in
-        linked_next (core_of s) g.period 0 0 (get_or e 0 0) (get_or e 0 0) [] w w 0 (linked_none (core_of s) g.period 0 (get_or e 0 0) w) 0 a (neg_ℤ (lower_in s a)) w' 2
+        linked_next (core_of s) g.period 0 0 (get_or t.lags 0 0) (get_or t.lags 0 0) [] w w 0 (linked_none (core_of s) g.period 0 (get_or t.lags 0 0) w) R.Limit a (neg_ℤ (lower_in s a)) w' 2
         (get_or g.lower a 0)
         (lower_written w w' q)
         (omega (arith, host_lag, h.stands.lower_is a l, negated (lower_in s a), lower_parts a (delay_in s a) (lower_in s a) (upper_in s a) (h.stands.sound.formed.block a l)))
         tt
-        (λ none z. omega arith)
+        (λ none z. cc)
 
-    pub begins : (w w' : List ℕ) (at : ℕ) → Begun start a w w' at → Begins w w' at
-    begins w w' at o = go (ℕ_discrete start a)
+    pub begins : (w w' : List ℕ) (at : ℕ) → Begun start x.a w w' at → Begins w w' at
+    begins w w' at o = go (ℕ_discrete start x.a)
       where
-        go : Dec (start ≡ a) → Begins w w' at
+        go : Dec (start ≡ x.a) → Begins w w' at
         go (yes q) = record {
           links = [];
-          top = get_or e start 0;
-          linked = rw ((o.0 q).0, (o.0 q).1, ← q) (linked_none (core_of s) g.period start (get_or e start 0) w);
-          asks = omega (arith, h.stuck.broken, ap (λ (x : ℕ). get_or e x 0) q);
+          top = get_or t.lags start 0;
+          linked = rw ((o.0 q).0, (o.0 q).1, ← q) (linked_none (core_of s) g.period start (get_or t.lags start 0) w);
+          asks = omega (arith, h.stuck.broken, ap (λ (y : ℕ). get_or t.lags y 0) q);
           fresh = tt;
-          others = λ x f. tt;
+          others = λ y f. tt;
         }
         go (no f) = record {
-          links = lower a ∷ [];
-          top = get_or g.lower a 0;
+          links = lower x.a ∷ [];
+          top = get_or g.lower x.a 0;
           linked = rw (ends.host f, (o.1 f).1) (lower_linked w w' (o.1 f).0);
           asks = falls_short f h.stuck.why;
           fresh = (λ q. f (ends.host f ∙ sym q), tt);
-          others = λ x k. (λ q. k (q ∙ sym (ends.host f)), tt);
+          others = λ y k. (λ q. k (q ∙ sym (ends.host f)), tt);
         }
 
     module _ (w w' : List ℕ) (at : ℕ) (B : Begins w w' at) where
-      pub begins_room : at + (n + 2) ≤ n * (n + 2)
+      pub begins_room : at + (g.n + 2) ≤ g.n * (g.n + 2)
       begins_room =
-          rw blocks (linked_room (core_of s) g.period start a B.top (get_or e start 0) B.links w w' at B.linked formed (omega (arith, blocks, a_in)) B.fresh)
+          rw blocks (linked_room (core_of s) g.period start x.a B.top (get_or t.lags start 0) B.links w w' at B.linked formed (omega (arith, blocks, a_in)) B.fresh)
 
-      pub walked_start : (w'' : List ℕ) (r : ℕ) → LinkWritten (core_of s) g.period i a b rule_bound.z w' w'' at r → Walked s par g e a b start ends w w'' r b
-      walked_start w'' r x = record {
+      pub walked_start : (w'' : List ℕ) (next : ℕ) → LinkWritten (core_of s) g.period x.rule x.a x.b rule_bound.z w' w'' at next → Walked s g t x start ends w w'' next x.b
+      walked_start w'' next l = record {
         k = 0;
         soon = omega arith;
         here = refl;
-        links = B.links ++ (x.link ∷ []);
+        links = B.links ++ (l.link ∷ []);
         linked =
-            linked_next (core_of s) g.period start a B.top (get_or e start 0) B.links w w' at B.linked i b rule_bound.z w'' r (get_or e b 0 + 1) x
+            linked_next (core_of s) g.period start x.a B.top (get_or t.lags start 0) B.links w w' at B.linked x.rule x.b rule_bound.z w'' next (get_or t.lags x.b 0 + 1) l
             (omega (arith, B.asks, rule_bound.z_is))
             B.fresh
-            (asked_slow (core_of s) g.period i a b rule_bound.z rule_bound.asked);
-        apart = λ y f k j. not_in_snoc (core_of s) y B.links x.link (B.others y f) (λ q. k (q ∙ x.a_is));
+            (asked_slow (core_of s) g.period x.rule x.a x.b rule_bound.z rule_bound.asked);
+        apart = λ y f k j. not_in_snoc (core_of s) y B.links l.link (B.others y f) (λ q. k (q ∙ l.a_is));
       }
 
-    module _ (w w' : List ℕ) (at v : ℕ) (W : Walked s par g e a b start ends w w' at v) where
-      pub walked_in : v < n
-      walked_in = subst (λ (x : ℕ). x < n) W.here (iter_in n par rooted b b_in W.k)
+    module _ (w w' : List ℕ) (at v : ℕ) (W : Walked s g t x start ends w w' at v) where
+      pub walked_in : v < g.n
+      walked_in = subst (λ (y : ℕ). y < g.n) W.here (iter_in g.n t.next rooted x.b b_in W.k)
 
       module _ (f : v ≡ start → ⊥) where
         on : W.k < ends.steps
         on =
             elim (ℕ_discrete W.k ends.steps) [
-              | yes q ↦ absurd (f (sym W.here ∙ ap (λ (x : ℕ). iter par x b) q ∙ ends.there))
+              | yes q ↦ absurd (f (sym W.here ∙ ap (λ (y : ℕ). iter t.next y x.b) q ∙ ends.there))
               | no q ↦ omega (arith, W.soon)
             ]
 
         fresh_here : NotIn v (map (link_a (core_of s)) W.links)
         fresh_here =
-            let d = rooted.ends b b_in in
+            let d = rooted.ends x.b b_in in
             W.apart v f (λ q. (ends.past W.k on).0 (W.here ∙ q))
-            (λ j l q. distinct par b d.0 j W.k d.1 (λ m y. (ends.past m (omega (arith, on))).1) l (sym q ∙ sym W.here))
+            (λ j l q. distinct t.next x.b d.0 j W.k d.1 (λ m y. (ends.past m (omega (arith, on))).1) l (sym q ∙ sym W.here))
 
-        pub walked_room : at + (n + 2) ≤ n * (n + 2)
+        pub walked_room : at + (g.n + 2) ≤ g.n * (g.n + 2)
         walked_room =
             rw blocks (linked_room (core_of s) g.period start v _ _ W.links w w' at W.linked formed (omega (arith, blocks, walked_in)) fresh_here)
 
-        pub walked_less : far 64 par (get_or par v 0) < far 64 par v
-        walked_less = far_less n 64 par rooted few_blocks v walked_in (λ z. (ends.past W.k on).1 (W.here ∙ z))
+        pub walked_less : far 64 t.next (get_or t.next v 0) < far 64 t.next v
+        walked_less = far_less g.n 64 t.next rooted few_blocks v walked_in (λ z. (ends.past W.k on).1 (W.here ∙ z))
 
-        pub walked_next : (w'' : List ℕ) (r v' : ℕ) → LinkWritten (core_of s) g.period (get_or ups v 0) v (get_or par v 0) (held_bound v walked_in).z w' w'' at r
-            → v' ≡ get_or par v 0 → Walked s par g e a b start ends w w'' r v'
-        walked_next w'' r v' x q =
+        pub walked_next : (w'' : List ℕ) (next v' : ℕ) → LinkWritten (core_of s) g.period (get_or t.rules v R.Limit) v (get_or t.next v 0) (held_bound v walked_in).z w' w'' at next
+            → v' ≡ get_or t.next v 0 → Walked s g t x start ends w w'' next v'
+        walked_next w'' next v' l q =
             let B = held_bound v walked_in in
             rw q
             (record {
               k = suc W.k;
               soon = on;
-              here = ap (λ (y : ℕ). get_or par y 0) W.here;
-              links = W.links ++ (x.link ∷ []);
+              here = ap (λ (y : ℕ). get_or t.next y 0) W.here;
+              links = W.links ++ (l.link ∷ []);
               linked =
-                  linked_next (core_of s) g.period start v _ _ W.links w w' at W.linked (get_or ups v 0) (get_or par v 0) B.z w'' r (get_or e (get_or par v 0) 0 + 1) x
-                  (omega (arith, B.z_is, (h.state.held v (rw h.n_is at walked_in)).2))
+                  linked_next (core_of s) g.period start v _ _ W.links w w' at W.linked (get_or t.rules v R.Limit) (get_or t.next v 0) B.z w'' next (get_or t.lags (get_or t.next v 0) 0 + 1) l
+                  (omega (arith, B.z_is, (h.state.held v walked_in).2))
                   fresh_here
                   (asked_slow (core_of s) g.period _ _ _ B.z B.asked);
-              apart = λ y o m j. not_in_snoc (core_of s) y W.links x.link (W.apart y o m (λ k l. j k (omega arith))) (λ z. j W.k (omega arith) (z ∙ x.a_is ∙ sym W.here));
+              apart = λ y o m j. not_in_snoc (core_of s) y W.links l.link (W.apart y o m (λ k i. j k (omega arith))) (λ z. j W.k (omega arith) (z ∙ l.a_is ∙ sym W.here));
             })
 
       -- ---- back at the start: the links are a valid loop
-      module _ (q : v ≡ start) (room : n * (n + 2) ≤ length w) where
-        fits : at ≤ n * (n + 2)
+      module _ (q : v ≡ start) (room : g.n * (g.n + 2) ≤ length w) where
+        fits : at ≤ g.n * (g.n + 2)
         fits = rw blocks (linked_few (core_of s) g.period start v _ _ W.links w w' at W.linked formed)
 
-        small : n * (n + 2) ≤ 4224
+        small : g.n * (g.n + 2) ≤ 4224
         small =
-            let m : n + 2 ≤ 66 = omega (arith, few_blocks) in
+            let m : g.n + 2 ≤ 66 = omega (arith, few_blocks) in
             mul-le-mul few_blocks m
 
-        closes : (ls : List Link) → Linked (core_of s) g.period start v (get_or e v 0 + 1) (get_or e start 0) ls w w' at → LoopWritten (core_of s) g.period w w' at
-        closes [] L = absurd (omega (arith, L.sum, ap (λ (x : ℕ). get_or e x 0) q))
+        closes : (ls : List Link) → Linked (core_of s) g.period start v (get_or t.lags v 0 + 1) (get_or t.lags start 0) ls w w' at → LoopWritten (core_of s) g.period w w' at
+        closes [] L = absurd (omega (arith, L.sum, ap (λ (y : ℕ). get_or t.lags y 0) q))
         closes (l ∷ ls) L =
             let words : take at w' ≡ all_words (l ∷ ls)
-            = ap (λ (x : ℕ). take x w') L.at_is ∙ ap (take (length (all_words (l ∷ ls)))) L.words_are ∙ sets_front (all_words (l ∷ ls)) w (omega (arith, L.at_is, fits)) in
+            = ap (λ (y : ℕ). take y w') L.at_is ∙ ap (take (length (all_words (l ∷ ls)))) L.words_are ∙ sets_front (all_words (l ∷ ls)) w (omega (arith, L.at_is, fits)) in
             let z : v ≡ link_a (core_of s) l = q ∙ sym L.chain.0 in
             let valid : ValidLoop (core_of s) g.period (take at w') = record {
               first = l;
@@ -265,13 +261,13 @@ module _ (s : List ℕ) (n : ℕ) (registers delays par ups : List ℕ) (i a b :
               words_are = words;
               short = omega (arith, ap length words, L.at_is, fits, small);
               closed = (refl, L.chain.1, rw (← z) L.chain.2);
-              negative = parts_negative (sum_k (core_of s) (l ∷ ls)) (omega (arith, L.sum, ap (λ (x : ℕ). get_or e x 0) q));
+              negative = parts_negative (sum_k (core_of s) (l ∷ ls)) (omega (arith, L.sum, ap (λ (y : ℕ). get_or t.lags y 0) q));
             } in
             record {
               valid = valid;
               once = L.once;
               plain = L.plain;
-              few = omega (arith, fits, ap (λ (x : ℕ). x * (x + 2)) blocks);
+              few = omega (arith, fits, ap (λ (y : ℕ). y * (y + 2)) blocks);
               kept = rw (L.words_are, L.at_is) (sets_kept (all_words (l ∷ ls)) w);
             }
 
