@@ -80,7 +80,8 @@ impl Descent {
     // Down to the largest lags at period c, or there are none.
     // The first round looks a few links back for a contradiction, later ones all the way: most are short, or come late.
     pub fn settle(&mut self, rules: &Rules, c: u32) -> Result<(), NoLags>
-        requires { State rules.now.keys.now rules.now.lower.now rules.now.upper.now c self.old.lags × (c < 1048576) }
+        requires state { State rules.now.keys.now rules.now.lower.now rules.now.upper.now c self.old.lags }
+        requires short { c < 1048576 }
         ensures rest { OnOk result (AtRest rules.now.keys.now rules.now.lower.now rules.now.upper.now c self.new.lags) }
         ensures stop { IfErr result (λ n. Stop rules.now.keys.now rules.now.lower.now rules.now.upper.now c n.below) }
     {
