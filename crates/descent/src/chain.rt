@@ -87,7 +87,7 @@ fn sunk(lags: &[u32; 64], lower: &[u32; 64]) -> usize
         .unwrap_or(63)
 }
 
-// Where lags that column v lowered have sunk below their lower limits: there are none at c, and what shows it may last.
+// Fails, since lags that column v lowered have sunk below their lower limits: there are none at c, and what shows it may last.
 pub fn sunk_floor(
     rules: &Rules,
     c: u32,

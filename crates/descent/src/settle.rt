@@ -7,7 +7,8 @@ use crate::column::{Column, under};
 use crate::rules::{NoLags, Rules};
 
 // Lags on their way down: each block's lag as an excess number, the block whose rule lowered it last (none: 64 and
-// above), and the lag at which its column was taken last.
+// above), and the lag at which its column was taken last (never: 40,000, above all lags).
+// Numbers stand for none here, since a push stores 64 links as vectors: with an Option it takes more than twice as long.
 #[derive(Clone, Copy)]
 pub struct Descent {
     pub lags: [u32; 64],
@@ -80,7 +81,8 @@ impl Descent {
     // Down to the largest lags at period c, or there are none.
     // The first round looks a few links back for a contradiction, later ones all the way: most are short, or come late.
     pub fn settle(&mut self, rules: &Rules, c: u32) -> Result<(), NoLags>
-        requires { State rules.now.keys.now rules.now.lower.now rules.now.upper.now c self.old.lags × (c < 1048576) }
+        requires state { State rules.now.keys.now rules.now.lower.now rules.now.upper.now c self.old.lags }
+        requires short { c < 1048576 }
         ensures rest { OnOk result (AtRest rules.now.keys.now rules.now.lower.now rules.now.upper.now c self.new.lags) }
         ensures stop { IfErr result (λ n. Stop rules.now.keys.now rules.now.lower.now rules.now.upper.now c n.below) }
     {

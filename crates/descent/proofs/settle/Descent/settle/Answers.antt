@@ -3,4 +3,4 @@ use Rattle.descent.specs.Laws.Round.{going_start}
 use Rattle.descent.proofs.settle.Descent.settle.Goals as goal
 
 pub loop-self-init : goal.loop-self-init
-loop-self-init c = (omega arith, going_start c.requires.0 c.requires.1)
+loop-self-init c = (omega arith, going_start c.requires.state c.requires.short)
