@@ -7,6 +7,7 @@ ghost use Rattle.witness.specs.Written.{Asked, PathWritten, LinkWritten};
 ghost use Rattle.witness.specs.Walked.{Begun};
 
 use crate::trace::trace;
+use sheet::opened::Formed;
 use solver::{Given, Rule};
 
 // The kinds of links, as a loop's words number them.
@@ -38,12 +39,12 @@ pub fn write_start(start: usize, a: usize, words: &mut [u16]) -> usize
 }
 
 // Kind 2: a best path from a to b.
-fn write_path(s: &[u8], given: &Given, a: usize, b: usize, words: &mut [u16]) -> usize
-    requires { Tabled s.now given.now × (a < given.now.n) × (b < given.now.n) × (registers_at given.now a b < 4294967295) × (given.now.n + 2 ≤ length words.old) }
-    ensures { PathWritten s.now given.now a b words.old words.new result }
+fn write_path(sheet: Formed<'_>, given: &Given, a: usize, b: usize, words: &mut [u16]) -> usize
+    requires { Tabled sheet.bytes.now given.now × (a < given.now.n) × (b < given.now.n) × (registers_at given.now a b < 4294967295) × (given.now.n + 2 ≤ length words.old) }
+    ensures { PathWritten sheet.entry.bytes.now given.now a b words.old words.new result }
 {
     let mut found = [0u16; 64];
-    let wires = trace(s, given, a, b, &mut found);
+    let wires = trace(sheet, given, a, b, &mut found);
     let end = 3 + wires.len();
     words[0] = PATH;
     words[1] = a as u16;
@@ -54,7 +55,7 @@ fn write_path(s: &[u8], given: &Given, a: usize, b: usize, words: &mut [u16]) ->
 
 // The link from a to b by a rule.
 pub fn write_link(
-    s: &[u8],
+    sheet: Formed<'_>,
     given: &Given,
     rule: Rule,
     a: usize,
@@ -62,13 +63,13 @@ pub fn write_link(
     words: &mut [u16],
 ) -> usize
     requires room { given.now.n + 2 ≤ length words.old }
-    requires known { Known s.now given.now rule }
-    requires asked { (k : ℤ) × Asked (core_of s.now) given.now.period rule a b k }
-    ensures { (k : ℤ) → Asked (core_of s.now) given.now.period rule a b k → LinkWritten (core_of s.now) given.now.period rule a b k words.old words.new 0 result }
+    requires known { Known sheet.bytes.now given.now rule }
+    requires asked { (k : ℤ) × Asked (core_of sheet.bytes.now) given.now.period rule a b k }
+    ensures { (k : ℤ) → Asked (core_of sheet.entry.bytes.now) given.now.period rule a b k → LinkWritten (core_of sheet.entry.bytes.now) given.now.period rule a b k words.old words.new 0 result }
 {
     match rule {
         Rule::Limit => write_pair(words, UPPER, a),
-        Rule::Path => write_path(s, given, a, b, words),
+        Rule::Path => write_path(sheet, given, a, b, words),
         Rule::Wire(j) => write_pair(words, WIRE, j),
         Rule::Ceiling(j) => write_pair(words, CEILING, j),
     }

@@ -5,8 +5,7 @@ ghost use Rattle.sheet.specs.Rules.{Told};
 ghost use Rattle.tables.specs.Back.{Completed};
 ghost use Rattle.witness.specs.Trace.{Tabled, Based, Bare, Apart, Traced, registers_at, delay_at};
 
-use crate::read::{delay_of, from_of};
-use sheet::wire::{WireRead, read_wire};
+use sheet::opened::Formed;
 use solver::Given;
 
 // Where a wire out of block f starts in row u of one of the path table's lists: the bare start block has its own number.
@@ -25,34 +24,32 @@ fn adds(total: u32, x: u32, y: u32) -> bool
 }
 
 // Whether wire j into v completes the entry u, v exactly.
-fn completes(s: &[u8], given: &Given, u: usize, v: usize, j: usize) -> bool
-    requires { Tabled s.now given.now × (u < given.now.n) × (v < given.now.n) × (j < wires_in s.now) × (registers_at given.now u v < 4294967295) }
-    ensures { Told (Completed (shape_of s.now) (registers_in s.now) u v (registers_at given.now u v) (delay_at given.now u v) j) result }
+fn completes(sheet: Formed<'_>, given: &Given, u: usize, v: usize, j: usize) -> bool
+    requires { Tabled sheet.bytes.now given.now × (u < given.now.n) × (v < given.now.n) × (j < wires_in sheet.bytes.now) × (registers_at given.now u v < 4294967295) }
+    ensures { Told (Completed (shape_of sheet.entry.bytes.now) (registers_in sheet.entry.bytes.now) u v (registers_at given.now u v) (delay_at given.now u v) j) result }
 {
     let n = given.n;
     let at = u * n + v;
-    let WireRead::Wire(f, t, w) = read_wire(s, n, j) else {
-        return false;
-    };
-    if t != v {
+    let wire = sheet.wire(j);
+    if wire.to != v {
         return false;
     }
-    let before = base(&given.registers, n, u, f, 0);
-    if !adds(given.registers[at], before, w) {
+    let before = base(&given.registers, n, u, wire.from, 0);
+    if !adds(given.registers[at], before, wire.registers) {
         return false;
     }
-    let early = base(&given.delays, n, u, f, delay_of(s, u));
-    adds(given.delays[at], early, delay_of(s, v))
+    let early = base(&given.delays, n, u, wire.from, sheet.block(u).delay);
+    adds(given.delays[at], early, sheet.block(v).delay)
 }
 
 // The first wire that completes the entry u, v exactly: there is one, since the pair's best paths are not the bare start block.
-fn last_wire(s: &[u8], given: &Given, u: usize, v: usize) -> usize
-    requires tabled { Tabled s.now given.now × (u < given.now.n) × (v < given.now.n) × (registers_at given.now u v < 4294967295) }
-    requires apart { Apart (shape_of s.now) (registers_in s.now) u v (registers_at given.now u v) (delay_at given.now u v) }
-    ensures { Completed (shape_of s.now) (registers_in s.now) u v (registers_at given.now u v) (delay_at given.now u v) result }
+fn last_wire(sheet: Formed<'_>, given: &Given, u: usize, v: usize) -> usize
+    requires tabled { Tabled sheet.bytes.now given.now × (u < given.now.n) × (v < given.now.n) × (registers_at given.now u v < 4294967295) }
+    requires apart { Apart (shape_of sheet.bytes.now) (registers_in sheet.bytes.now) u v (registers_at given.now u v) (delay_at given.now u v) }
+    ensures { Completed (shape_of sheet.entry.bytes.now) (registers_in sheet.entry.bytes.now) u v (registers_at given.now u v) (delay_at given.now u v) result }
 {
     for j in 0..given.m {
-        if completes(s, given, u, v, j) {
+        if completes(sheet, given, u, v, j) {
             return j;
         }
     }
@@ -60,29 +57,29 @@ fn last_wire(s: &[u8], given: &Given, u: usize, v: usize) -> usize
 }
 
 // Whether the best path from u to v is the bare start block.
-fn bare(s: &[u8], given: &Given, u: usize, v: usize) -> bool
-    requires { Tabled s.now given.now × (u < given.now.n) × (v < given.now.n) }
-    ensures { Told (Bare (shape_of s.now) (registers_in s.now) u v (registers_at given.now u v) (delay_at given.now u v)) result }
+fn bare(sheet: Formed<'_>, given: &Given, u: usize, v: usize) -> bool
+    requires { Tabled sheet.bytes.now given.now × (u < given.now.n) × (v < given.now.n) }
+    ensures { Told (Bare (shape_of sheet.entry.bytes.now) (registers_in sheet.entry.bytes.now) u v (registers_at given.now u v) (delay_at given.now u v)) result }
 {
     let at = u * given.n + v;
-    v == u && given.registers[at] == 0 && given.delays[at] == delay_of(s, u)
+    v == u && given.registers[at] == 0 && given.delays[at] == sheet.block(u).delay
 }
 
 // The wires of a best path from u to v, in path order, at the end of the list lent.
-pub fn trace<'a>(s: &[u8], given: &Given, u: usize, v: usize, wires: &'a mut [u16; 64]) -> &'a [u16]
-    requires { Tabled s.now given.now × (u < given.now.n) × (v < given.now.n) × (registers_at given.now u v < 4294967295) × (length wires.old ≡ 64) }
-    ensures { Traced (shape_of s.now) (registers_in s.now) u v (registers_at given.now u v) (delay_at given.now u v) result.now }
+pub fn trace<'a>(sheet: Formed<'_>, given: &Given, u: usize, v: usize, wires: &'a mut [u16; 64]) -> &'a [u16]
+    requires { Tabled sheet.bytes.now given.now × (u < given.now.n) × (v < given.now.n) × (registers_at given.now u v < 4294967295) × (length wires.old ≡ 64) }
+    ensures { Traced (shape_of sheet.entry.bytes.now) (registers_in sheet.entry.bytes.now) u v (registers_at given.now u v) (delay_at given.now u v) result.now }
 {
-    if bare(s, given, u, v) {
+    if bare(sheet, given, u, v) {
         return &wires[64..];
     }
     let mut b = v;
     let mut at = 64usize;
     loop {
-        let j = last_wire(s, given, u, b);
+        let j = last_wire(sheet, given, u, b);
         at -= 1;
         wires[at] = j as u16;
-        b = from_of(s, given.n, j);
+        b = sheet.wire(j).from;
         if b == u {
             return &wires[at..];
         }

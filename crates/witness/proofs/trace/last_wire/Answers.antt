@@ -6,10 +6,10 @@ use Rattle.witness.specs.Laws.Trace.{search_on, search_short, best_of}
 use Rattle.witness.proofs.trace.last_wire.Goals as goal
 
 pub loop-j-preserved : goal.loop-j-preserved
-loop-j-preserved c = search_on (shape_of c.args.s.now) (registers_in c.args.s.now) _ _ _ _ _ c.loop-j.invariant (told_false _ c.completes.result c.completes.ensures c.if-completes.false)
+loop-j-preserved c = search_on (shape_of c.args.sheet.bytes.now) (registers_in c.args.sheet.bytes.now) _ _ _ _ _ c.loop-j.invariant (told_false _ c.completes.result c.completes.ensures c.if-completes.false)
 
 pub unreachable-requires : goal.unreachable-requires
 unreachable-requires c =
     let t = c.requires.tabled in
-    let short = search_short (shape_of c.args.s.now) (registers_in c.args.s.now) _ _ _ _ _ c.loop-j.invariant t.0.sound.free (best_of c.args.s.now _ t.0 _ _ t.1 t.2 t.3) c.requires.apart in
+    let short = search_short (shape_of c.args.sheet.bytes.now) (registers_in c.args.sheet.bytes.now) _ _ _ _ _ c.loop-j.invariant t.0.sound.free (best_of c.args.sheet.bytes.now _ t.0 _ _ t.1 t.2 t.3) c.requires.apart in
     omega (arith, short, t.0.m_is)
