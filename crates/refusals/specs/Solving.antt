@@ -1,8 +1,7 @@
 -- The solver at work on a sheet: where it may start, where it rests, and what one run of it gives.
 use Rattle.std.specs.Prelude.{◌≡◌, Result, Ok, Err, List, ◌++◌, ℤ, ℕ}
 use Rattle.sheet.specs.Core.{core_of}
-use Rattle.sheet.specs.Rules.{Rule, answer, stage}
-use Rattle.sheet.specs.declared.answer.Answer.{Answer}
+use Rattle.sheet.specs.Rules.{Rule, stage}
 use Rattle.paths.specs.Questions.{sound_rules}
 use Rattle.promises.specs.Lags.{NonePermitted}
 use Rattle.promises.specs.Questions.{LagsOutcome, lags_outcome, lag_room, lags_last, best_last}
@@ -24,13 +23,13 @@ pub record Resting (s : List ℕ) (g : Given) (t : Standing) : Type 0 where
   pub solving : Solving s g t
   pub rest : AllHold g t.lags
 
--- a run of the solver comes to rest, or a loop was written and the answer counts its words
-abbrev pub Ran : List ℕ → ℕ → Given → Standing → List ℕ → List ℕ → Result (Unit {0}) Answer → Type 0
-Ran s number g t w w' (Ok rest) = Resting s g t × (w' ≡ w)
-Ran s number g t w w' (Err a) = (count : ℕ) × (a ≡ answer number 0 count) × LoopWritten (core_of s) g.period w w' count
+-- a run of the solver comes to rest, or a loop of so many words was written
+abbrev pub Ran : List ℕ → Given → Standing → List ℕ → List ℕ → Result (Unit {0}) ℕ → Type 0
+Ran s g t w w' (Ok rest) = Resting s g t × (w' ≡ w)
+Ran s g t w w' (Err count) = LoopWritten (core_of s) g.period w w' count
 
-pub record Solved (s : List ℕ) (number : ℕ) (g : Given) (t : Standing) (w w' : List ℕ) (r : Result (Unit {0}) Answer) : Type 0 where
-  pub ran : Ran s number g t w w' r
+pub record Solved (s : List ℕ) (g : Given) (t : Standing) (w w' : List ℕ) (r : Result (Unit {0}) ℕ) : Type 0 where
+  pub ran : Ran s g t w w' r
 
 -- ---- both lag questions at once: what is asked for tells the last rules
 abbrev pub last_of : List ℕ → Aim → List ℤ → List ℕ → List (Rule LagsOutcome)

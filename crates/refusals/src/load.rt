@@ -1,53 +1,55 @@
 // What the solver is given, loaded from a sound sheet; and the lags that it found, written out.
 ghost use Rattle.std.specs.Prelude.{◌≡◌, ℕ, ◌<◌, ◌≤◌, length, get_or};
-ghost use Rattle.sheet.specs.Core.{blocks_in, wires_in, ceiling_of};
+ghost use Rattle.sheet.specs.Core.{ceiling_of};
 ghost use Rattle.sheet.specs.Filled.{filled};
 ghost use Rattle.sheet.specs.Lag.{lag_of};
-ghost use Rattle.paths.specs.Questions.{SoundSheet};
 ghost use Rattle.refusals.specs.Load.{wire_bound, ceiling_bound, Loaded};
 
+use paths::sound::Sound;
+use paths::wiring::Wiring;
 use sheet::lag::lag_of;
-use sheet::load::{load_limits, load_wires};
+use sheet::load::Limits;
 use solver::Given;
 
 // The most registers that a wire may end with.
 const CEILING: u32 = 2000;
 
 // The bounds of each wire's rule and of its ceiling's, from the wires' registers.
-fn bound_lists(m: usize, registers: &[u32; 256], wires: &mut [u32; 256], ceilings: &mut [u32; 256])
-    requires { (m ≤ 256) × (length registers.now ≡ 256) × (length wires.old ≡ 256) × (length ceilings.old ≡ 256) × ((j : ℕ) → j < m → get_or registers.now j 0 ≤ 2000) }
-    ensures { (wires.new ≡ filled (λ j. wire_bound (get_or registers.now j 0)) m wires.old) × (ceilings.new ≡ filled (λ j. ceiling_bound (ceiling_of 0) (get_or registers.now j 0)) m ceilings.old) }
+fn bound_lists(wiring: &Wiring, wires: &mut [u32; 256], ceilings: &mut [u32; 256])
+    ensures wires { wires.new ≡ filled (λ j. wire_bound (get_or wiring.now.registers j 0)) wiring.now.m wires.old }
+    ensures ceilings { ceilings.new ≡ filled (λ j. ceiling_bound (ceiling_of 0) (get_or wiring.now.registers j 0)) wiring.now.m ceilings.old }
 {
-    for j in 0..m {
-        let w = registers[j];
+    for j in 0..wiring.m {
+        let w = wiring.registers[j];
         wires[j] = w + 32768;
         ceilings[j] = CEILING + 32768 - w;
     }
 }
 
 // All that the solver is given but a path table; no path is slower than the longest period.
-pub fn load(s: &[u8], n: usize, m: usize) -> Given
-    requires { SoundSheet s.now × (n ≡ blocks_in s.now) × (m ≡ wires_in s.now) }
-    ensures { Loaded s.now result }
+pub fn load(sheet: Sound<'_>) -> Given
+    ensures { Loaded sheet.entry.bytes.now result }
 {
-    let mut given = Given {
-        n,
-        m,
+    let formed = sheet.formed();
+    let wiring = Wiring::of(formed);
+    let Limits { lower, upper } = formed.limits();
+    let (from, to) = (wiring.from, wiring.to);
+    let mut wires = [0; 256];
+    let mut ceilings = [0; 256];
+    bound_lists(&wiring, &mut wires, &mut ceilings);
+    Given {
+        n: wiring.n,
+        m: wiring.m,
         period: u32::MAX,
-        lower: [0; 64],
-        upper: [0; 64],
-        from: [0; 256],
-        to: [0; 256],
-        wires: [0; 256],
-        ceilings: [0; 256],
+        lower,
+        upper,
+        from,
+        to,
+        wires,
+        ceilings,
         registers: [0; 4096],
         delays: [0; 4096],
-    };
-    let mut own = [0u32; 256];
-    load_limits(s, n, &mut given.lower, &mut given.upper);
-    load_wires(s, n, m, &mut given.from, &mut given.to, &mut own);
-    bound_lists(m, &own, &mut given.wires, &mut given.ceilings);
-    given
+    }
 }
 
 // The first n lags, from their excess numbers.

@@ -73,9 +73,12 @@ entry_is f n l₀ l e h i k = ap (λ (x : List ℕ). get_or x i 0) e ∙ filled_
 pub long_is : (f : ℕ → ℕ) (n k : ℕ) (l₀ l : List ℕ) → l ≡ filled f n l₀ → length l₀ ≡ k → length l ≡ k
 long_is f n k l₀ l e h = ap length e ∙ length_filled f n l₀ ∙ h
 
--- ---- the lists as they are loaded, all of zeros before
+-- ---- the lists as they are loaded, all alike before
 zeros : (k : ℕ) → length {A = ℕ} (replicate k 0) ≡ k
 zeros k = length-replicate {A = ℕ} k 0
+
+still : length {A = ℕ} (replicate 64 32768) ≡ 64
+still = length-replicate {A = ℕ} 64 32768
 
 module _ (s : List ℕ) (S : SoundSheet s) (n m : ℕ) (n_is : n ≡ blocks_in s) (m_is : m ≡ wires_in s) where
   few_blocks : n ≤ 64
@@ -96,7 +99,7 @@ module _ (s : List ℕ) (S : SoundSheet s) (n m : ℕ) (n_is : n ≡ blocks_in s
     own_few j h = omega (arith, own_at j h, (S.formed.wire j (omega arith)).few)
 
     module _ {lower upper from to wires ceilings : List ℕ}
-        (limits : (lower ≡ filled (λ b. excess (lower_in s b)) n (replicate 64 0)) × (upper ≡ filled (λ b. excess (upper_in s b)) n (replicate 64 0)))
+        (limits : (lower ≡ filled (λ b. excess (lower_in s b)) n (replicate 64 32768)) × (upper ≡ filled (λ b. excess (upper_in s b)) n (replicate 64 32768)))
         (from_is : from ≡ filled (from_in s) m (replicate 256 0)) (to_is : to ≡ filled (to_in s) m (replicate 256 0))
         (bounds : (wires ≡ filled (λ j. wire_bound (get_or own j 0)) m (replicate 256 0)) × (ceilings ≡ filled (λ j. ceiling_bound (ceiling_of 0) (get_or own j 0)) m (replicate 256 0))) where
       abbrev held : Given
@@ -107,8 +110,8 @@ module _ (s : List ℕ) (S : SoundSheet s) (n m : ℕ) (n_is : n ≡ blocks_in s
         sound = S;
         n_is = n_is;
         m_is = m_is;
-        lower_is = λ b h. entry_is _ n _ lower limits.0 (omega (arith, few_blocks, zeros 64)) b (omega arith);
-        upper_is = λ b h. entry_is _ n _ upper limits.1 (omega (arith, few_blocks, zeros 64)) b (omega arith);
+        lower_is = λ b h. entry_is _ n _ lower limits.0 (omega (arith, few_blocks, still)) b (omega arith);
+        upper_is = λ b h. entry_is _ n _ upper limits.1 (omega (arith, few_blocks, still)) b (omega arith);
         from_is = λ j h. entry_is _ m _ from from_is (omega (arith, few_wires, zeros 256)) j (omega arith);
         to_is = λ j h. entry_is _ m _ to to_is (omega (arith, few_wires, zeros 256)) j (omega arith);
         wires_is = λ j h.
@@ -122,8 +125,8 @@ module _ (s : List ℕ) (S : SoundSheet s) (n m : ℕ) (n_is : n ≡ blocks_in s
 
       loaded_long : Long held
       loaded_long = record {
-        lower_long = long_is _ n 64 _ lower limits.0 (zeros 64);
-        upper_long = long_is _ n 64 _ upper limits.1 (zeros 64);
+        lower_long = long_is _ n 64 _ lower limits.0 still;
+        upper_long = long_is _ n 64 _ upper limits.1 still;
         from_long = long_is _ m 256 _ from from_is (zeros 256);
         to_long = long_is _ m 256 _ to to_is (zeros 256);
         wires_long = long_is _ m 256 _ wires bounds.0 (zeros 256);

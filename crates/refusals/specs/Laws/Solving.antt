@@ -1,13 +1,12 @@
 -- The solver's runs, from the lists just loaded to the answer.
 -- Assumes nothing.
-use Rattle.std.specs.Prelude.{◌≡◌, Result, Ok, Err, List, ℕ, ◌≤◌, ◌<◌, ℤ, length, get_or}
+use Rattle.std.specs.Prelude.{◌≡◌, refl, Result, Ok, Err, List, ℕ, ◌≤◌, ◌<◌, ℤ, length, get_or}
 use Rattle.std.proofs.Common.{◌∙◌, subst, arith}
 use Rattle.sheet.specs.Lag.{lag_of}
 use Rattle.sheet.specs.Core.{blocks_in, registers_in, shape_of, core_of}
 use Rattle.sheet.specs.Filled.{filled}
 use Rattle.sheet.specs.Rules.{First, answer}
 use Rattle.sheet.specs.Laws.Formed.{formed_core, formed_numbers}
-use Rattle.sheet.specs.declared.answer.Answer.{Answer}
 use Rattle.paths.specs.Table.{Table}
 use Rattle.tables.specs.Row.{Rows}
 use Rattle.moves.specs.Lags.{Permitted}
@@ -28,12 +27,12 @@ use Rattle.promises.specs.Laws.Done.{lags_written}
 use Rattle.refusals.specs.Laws.Loops.{refused_none, best_refused_none, refused_slow}
 
 -- what a run gave, once its case is known
-module _ {s : List ℕ} {number : ℕ} {g : Given} {t : Standing} {w w' : List ℕ} {r : Result (Unit {0}) Answer} (h : Solved s number g t w w' r) where
+module _ {s : List ℕ} {g : Given} {t : Standing} {w w' : List ℕ} {r : Result (Unit {0}) ℕ} (h : Solved s g t w w' r) where
   pub solved_rests : r ≡ Ok tt → Resting s g t × (w' ≡ w)
-  solved_rests q = subst (Ran s number g t w w') q h.ran
+  solved_rests q = subst (Ran s g t w w') q h.ran
 
-  pub solved_refuses : (a : Answer) → r ≡ Err a → (count : ℕ) × (a ≡ answer number 0 count) × LoopWritten (core_of s) g.period w w' count
-  solved_refuses a q = subst (Ran s number g t w w') q h.ran
+  pub solved_refuses : (count : ℕ) → r ≡ Err count → LoopWritten (core_of s) g.period w w' count
+  solved_refuses count q = subst (Ran s g t w w') q h.ran
 
 -- ---- lags at rest
 module _ {s : List ℕ} {g : Given} {t : Standing} (R : Resting s g t) where
@@ -82,16 +81,16 @@ module _ {s : List ℕ} {g : Given} {t : Standing} (R : Resting s g t) where
       omega (arith, R.solving.state.high b h, S.upper_is b k, (formed_numbers (core_of s) (formed_core s S.sound.formed) b k).highest)
 
 -- ---- refusals: the first run finds that no permitted lags exist, a later one that none meets the period
-module _ {s : List ℕ} {g : Given} {t : Standing} {w w' : List ℕ} {r : Result (Unit {0}) Answer} (l : List ℤ) (a : Answer) (q : r ≡ Err a) where
-  pub first_refuses : (aim : Aim) → Loaded s g → Solved s 10 g t w w' r → First (last_of s aim l w) (lags_outcome a l w')
-  first_refuses (A.At c) L h = let k = solved_refuses h a q in refused_none s L.held.stands.sound l w w' a k.0 k.1 (subst (λ p. LoopWritten (core_of s) p w w' k.0) L.period_is k.2) c
-  first_refuses A.Least L h = let k = solved_refuses h a q in best_refused_none s L.held.stands.sound l w w' a k.0 k.1 (subst (λ p. LoopWritten (core_of s) p w w' k.0) L.period_is k.2)
+module _ {s : List ℕ} {g : Given} {t : Standing} {w w' : List ℕ} {r : Result (Unit {0}) ℕ} (l : List ℤ) (count : ℕ) (q : r ≡ Err count) where
+  pub first_refuses : (aim : Aim) → Loaded s g → Solved s g t w w' r → First (last_of s aim l w) (lags_outcome (answer 10 0 count) l w')
+  first_refuses (A.At c) L h = refused_none s L.held.stands.sound l w w' (answer 10 0 count) count refl (subst (λ p. LoopWritten (core_of s) p w w' count) L.period_is (solved_refuses h count q)) c
+  first_refuses A.Least L h = best_refused_none s L.held.stands.sound l w w' (answer 10 0 count) count refl (subst (λ p. LoopWritten (core_of s) p w w' count) L.period_is (solved_refuses h count q))
 
-  pub later_refuses : {g₀ : Given} {t₀ : Standing} → Resting s g₀ t₀ → Solved s 11 g t w w' r → First (lags_last s g.period l w) (lags_outcome a l w')
-  later_refuses R h = let k = solved_refuses h a q in refused_slow s R.solving.stands.sound l w w' a k.0 g.period k.1 k.2 _ (resting_permitted R)
+  pub later_refuses : {g₀ : Given} {t₀ : Standing} → Resting s g₀ t₀ → Solved s g t w w' r → First (lags_last s g.period l w) (lags_outcome (answer 11 0 count) l w')
+  later_refuses R h = refused_slow s R.solving.stands.sound l w w' (answer 11 0 count) count g.period refl (solved_refuses h count q) _ (resting_permitted R)
 
 -- a run that came to rest: what the writer of lags needs, and the answer 0 with the lags that it wrote
-module _ {s : List ℕ} {number : ℕ} {g : Given} {t : Standing} {w w' : List ℕ} {r : Result (Unit {0}) Answer} (h : Solved s number g t w w' r) (q : r ≡ Ok tt) where
+module _ {s : List ℕ} {g : Given} {t : Standing} {w w' : List ℕ} {r : Result (Unit {0}) ℕ} (h : Solved s g t w w' r) (q : r ≡ Ok tt) where
   pub later_writes : (k : ℕ) → g.n ≤ k → (g.n ≤ 64) × (length t.lags ≡ 64) × (g.n ≤ k) × ((b : ℕ) → b < g.n → get_or t.lags b 0 < 65536)
   later_writes k long = let R = (solved_rests h q).0 in (resting_few R, R.solving.state.lags_long, long, resting_small R)
 

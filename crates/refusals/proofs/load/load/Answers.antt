@@ -1,10 +1,11 @@
--- The lists hold the sheet's numbers, and there is no path table.
-use Rattle.std.proofs.Common.{refl}
-use Rattle.refusals.specs.Laws.Load.{few_wires, own_long, own_few, loaded}
+-- The lists of a wiring and the limits are those that the solver is given.
+use Rattle.std.proofs.Common.{◌≡◌, ◌∙◌, sym}
+use Rattle.refusals.specs.Laws.Load.{loaded}
 use Rattle.refusals.proofs.load.load.Goals as goal
 
-pub bound_lists-requires : goal.bound_lists-requires
-bound_lists-requires c = let p = c.requires in (few_wires _ p.0 _ _ p.1 p.2, own_long _ p.0 _ _ p.1 p.2 _ c.load_wires.ensures.2, refl, refl, own_few _ p.0 _ _ p.1 p.2 _ c.load_wires.ensures.2)
-
 pub returns : goal.returns
-returns c = let p = c.requires in loaded _ p.0 _ _ p.1 p.2 _ c.load_wires.ensures.2 c.load_limits.ensures c.load_wires.ensures.0 c.load_wires.ensures.1 c.bound_lists.ensures
+returns c =
+    let f = c.formed-formed.ensures in
+    let W = rw f.0 at c.of-wiring.ensures in
+    let e : c.formed-formed.result.n ≡ c.of-wiring.result.n = f.1 ∙ c.args.sheet.n_is ∙ sym W.n_is in
+    loaded c.args.sheet.bytes.now c.args.sheet.sound _ _ W.n_is W.m_is _ W.registers_is (rw (f.0, e) at c.limits.ensures.lower, rw (f.0, e) at c.limits.ensures.upper) W.from_is W.to_is (c.bound_lists.ensures.wires, c.bound_lists.ensures.ceilings)
