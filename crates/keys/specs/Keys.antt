@@ -4,6 +4,7 @@ use Rattle.std.specs.Prelude.{◌≡◌, ◌⊎◌, List, ℕ, ◌+◌, ◌*◌,
 use Rattle.sheet.specs.Core.{Shape}
 use Rattle.paths.specs.Path.{Joins, registers_on, delay_on}
 use Rattle.paths.specs.Table.{Way}
+use Rattle.paths.specs.declared.wiring.Wiring.{Wiring}
 
 -- the entry of the pair u, v: all start blocks u of one end block v stand together
 abbrev pub entry : List ℕ → ℕ → ℕ → ℕ
@@ -31,22 +32,16 @@ module _ (s : Shape) (w : ℕ → ℕ) where
     pub high : (u v : ℕ) → u < 64 → v < 64 → entry keys u v ≤ 2099249152
     pub outside : (u v : ℕ) → u < 64 → v < 64 → (s.n ≤ u) ⊎ (s.n ≤ v) → Loose (entry keys u v)
 
--- the rule of each wire's ceiling, lag(t) - lag(f) ≤ 2000 - w, is folded into the entry of the pair t, f
-pub record Folded (m : ℕ) (from to registers keys keys' : List ℕ) : Type 0 where
+-- the rule of the ceiling of each of the first m wires, lag(t) - lag(f) ≤ 2000 - w, is folded into the entry of the pair t, f
+pub record Folded (w : Wiring) (m : ℕ) (keys keys' : List ℕ) : Type 0 where
   pub long : length keys' ≡ 4096
   pub falls : (i : ℕ) → get_or keys' i 0 ≤ get_or keys i 0
-  pub held : (j : ℕ) → j < m → entry keys' (get_or to j 0) (get_or from j 0) ≤ (2001 - get_or registers j 0) * 1048576
+  pub held : (j : ℕ) → j < m → entry keys' (get_or w.to j 0) (get_or w.from j 0) ≤ (2001 - get_or w.registers j 0) * 1048576
   pub real : (i : ℕ) → (get_or keys' i 0 ≡ get_or keys i 0)
-      ⊎ ((j : ℕ) × (j < m) × (i ≡ get_or from j 0 * 64 + get_or to j 0) × (get_or keys' i 0 ≡ (2001 - get_or registers j 0) * 1048576))
+      ⊎ ((j : ℕ) × (j < m) × (i ≡ get_or w.from j 0 * 64 + get_or w.to j 0) × (get_or keys' i 0 ≡ (2001 - get_or w.registers j 0) * 1048576))
 
 -- an order in which every wire stands
 pub record Turns (m : ℕ) (turns : List ℕ) : Type 0 where
   pub long : length turns ≡ 256
   pub below : (p : ℕ) → p < m → get_or turns p 0 < m
   pub every : (j : ℕ) → j < m → (p : ℕ) × (p < m) × (get_or turns p 0 ≡ j)
-
--- the ends of the wires, as an order of them reads it
-pub record Ends (m : ℕ) (to : List ℕ) : Type 0 where
-  pub few_wires : m ≤ 256
-  pub long : length to ≡ 256
-  pub block : (j : ℕ) → j < m → get_or to j 0 < 64

@@ -1,3 +1,4 @@
 pub mod Keys
 pub mod Filling
+pub mod Ordered
 pub mod Laws

@@ -1,86 +1,52 @@
 // The path table as one key for each pair of blocks, filled for all start blocks at once.
 #![tactic(auto)]
 
-ghost use Rattle.std.specs.Prelude.{ℕ};
-ghost use Rattle.paths.specs.Lists.{held, list_shape, Wires, Delays};
-ghost use Rattle.keys.specs.Keys.{Slow, Keyed, Folded, Turns};
+ghost use Rattle.keys.specs.Keys.{Keyed, Folded, Turns};
+ghost use Rattle.keys.specs.Ordered.{shape_of, weights_of};
 
 use crate::lanes::blank;
 use crate::order::{Direction, add_up, complete, count, heights, place, plain};
+use crate::ordered::Ordered;
 use crate::sweep::{Versions, sweep};
+use paths::wiring::Wiring;
 
 mod lanes; // the 64 start blocks of one end block
 mod order; // the wires in an order, by counting
+pub mod ordered; // what the keys are filled from
 mod sweep; // one sweep over the wires
 
 // The keys of all pairs: sweeps over the wires, forwards and backwards in turn, until one lowers nothing.
-pub fn fill_keys(
-    n: usize,
-    m: usize,
-    delays: &[u32; 64],
-    from: &[usize; 256],
-    to: &[usize; 256],
-    registers: &[u32; 256],
-    turns: &[usize; 256],
-    keys: &mut [u32; 4096],
-)
-    requires { Wires n m from.now to.now registers.now × Delays n delays.now × Turns m turns.now × Slow (list_shape n m delays.now from.now to.now) (held registers.now) }
-    ensures { Keyed (list_shape n m delays.now from.now to.now) (held registers.now) keys.new }
+pub fn fill_keys(ordered: &Ordered<'_>, keys: &mut [u32; 4096])
+    ensures { Keyed (shape_of ordered.now) (weights_of ordered.now) keys.new }
 {
-    blank(n, delays, keys);
+    blank(ordered.wiring.n, ordered.delays, keys);
     let mut versions = Versions::new();
     let mut way = Direction::Forwards;
-    while sweep(
-        n,
-        m,
-        delays,
-        from,
-        to,
-        registers,
-        turns,
-        way,
-        &mut versions,
-        keys,
-    ) > 0
-    {
+    while sweep(ordered, way, &mut versions, keys) > 0 {
         way = way.turned();
     }
 }
 
 // The ceiling of each wire, folded into the table: the rule lag(t) - lag(f) <= 2000 - w of a wire from f to t with w registers.
-pub fn fold_ceilings(
-    m: usize,
-    from: &[usize; 256],
-    to: &[usize; 256],
-    registers: &[u32; 256],
-    keys: &mut [u32; 4096],
-)
-    requires { (n : ℕ) × Wires n m from.now to.now registers.now }
-    ensures { Folded m from.now to.now registers.now keys.old keys.new }
+pub fn fold_ceilings(wiring: &Wiring, keys: &mut [u32; 4096])
+    ensures { Folded wiring.now wiring.now.m keys.old keys.new }
 {
-    for j in 0..m {
-        let at = from[j] * 64 + to[j];
-        keys[at] = keys[at].min((2001 - registers[j]) * 1048576);
+    for j in 0..wiring.m {
+        let at = wiring.from[j] * 64 + wiring.to[j];
+        keys[at] = keys[at].min((2001 - wiring.registers[j]) * 1048576);
     }
 }
 
 // The wires in the order of the heights of the blocks that they lead to: a table filled in this order settles in few sweeps.
-pub fn in_turn(
-    n: usize,
-    m: usize,
-    from: &[usize; 256],
-    to: &[usize; 256],
-    registers: &[u32; 256],
-) -> [usize; 256]
-    requires { Wires n m from.now to.now registers.now }
-    ensures { Turns m result }
+pub fn in_turn(wiring: &Wiring) -> [usize; 256]
+    ensures { Turns wiring.now.m result }
 {
-    let height = heights(n, m, from, to, registers);
-    let mut starts = add_up(&count(m, to, &height));
+    let height = heights(wiring);
+    let mut starts = add_up(&count(wiring, &height));
     let mut places = [0; 256];
     let mut turns = [0; 256];
-    place(m, to, &height, &mut starts, &mut places, &mut turns);
-    if complete(m, &places, &turns) {
+    place(wiring, &height, &mut starts, &mut places, &mut turns);
+    if complete(wiring.m, &places, &turns) {
         turns
     } else {
         plain()

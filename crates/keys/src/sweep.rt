@@ -1,12 +1,12 @@
 // One sweep over the wires: a wire is tried where the row of its start changed since it was last tried.
 // Rows have versions, and each wire the version of its start's row that it has seen.
 ghost use Rattle.std.specs.Prelude.{◌≡◌, ℕ, ◌*◌, ◌<◌, replicate};
-ghost use Rattle.paths.specs.Lists.{held, list_shape, Wires, Delays};
-ghost use Rattle.keys.specs.Keys.{Slow, Turns};
 ghost use Rattle.keys.specs.Filling.{Within, Counts, News, Stepped, Settling, Swept};
+ghost use Rattle.keys.specs.Ordered.{shape_of, weights_of};
 
 use crate::lanes::try_wire;
 use crate::order::Direction;
+use crate::ordered::Ordered;
 
 // The version of each block's row, and the one of its start's row that each wire has seen.
 #[derive(Clone, Copy)]
@@ -41,22 +41,15 @@ impl Versions {
 }
 
 // Meets wire j: the number of entries that it lowers. Each of them gives the end block's row a new version.
-fn step(
-    delays: &[u32; 64],
-    from: &[usize; 256],
-    to: &[usize; 256],
-    registers: &[u32; 256],
-    j: usize,
-    versions: &mut Versions,
-    keys: &mut [u32; 4096],
-) -> u32
-    requires { (n : ℕ) × (m : ℕ) × Wires n m from.now to.now registers.now × Delays n delays.now × (j < m) × Counts 64 8598524526593 versions.old.rows × Within keys.old }
-    ensures { Stepped (held from.now j) (held to.now j) (held registers.now j * 1048576) (held delays.now (held to.now j)) j versions.old.rows versions.old.seen keys.old versions.new.rows versions.new.seen keys.new result }
+fn step(ordered: &Ordered<'_>, j: usize, versions: &mut Versions, keys: &mut [u32; 4096]) -> u32
+    requires { (j < ordered.now.wiring.now.m) × Counts 64 8598524526593 versions.old.rows × Within keys.old }
+    ensures { Stepped (shape_of ordered.now) (weights_of ordered.now) j versions.old.rows versions.old.seen keys.old versions.new.rows versions.new.seen keys.new result }
 {
-    let f = from[j];
+    let wiring = ordered.wiring;
+    let f = wiring.from[j];
     if versions.take_news(f, j) {
-        let t = to[j];
-        let r = try_wire(keys, f, t, registers[j] * 1048576, delays[t]);
+        let t = wiring.to[j];
+        let r = try_wire(keys, f, t, wiring.registers[j] * 1048576, ordered.delays[t]);
         versions.rows[t] += r as usize;
         return r;
     }
@@ -65,25 +58,19 @@ fn step(
 
 // All wires in turn: the number of entries lowered.
 pub fn sweep(
-    n: usize,
-    m: usize,
-    delays: &[u32; 64],
-    from: &[usize; 256],
-    to: &[usize; 256],
-    registers: &[u32; 256],
-    turns: &[usize; 256],
+    ordered: &Ordered<'_>,
     way: Direction,
     versions: &mut Versions,
     keys: &mut [u32; 4096],
 ) -> u32
-    requires wires { Wires n m from.now to.now registers.now × Delays n delays.now × Turns m turns.now × Slow (list_shape n m delays.now from.now to.now) (held registers.now) }
-    requires settling { Settling (list_shape n m delays.now from.now to.now) (held registers.now) versions.old.rows versions.old.seen keys.old }
-    ensures { Swept (list_shape n m delays.now from.now to.now) (held registers.now) keys.old versions.new.rows versions.new.seen keys.new result }
+    requires { Settling (shape_of ordered.now) (weights_of ordered.now) versions.old.rows versions.old.seen keys.old }
+    ensures { Swept (shape_of ordered.now) (weights_of ordered.now) keys.old versions.new.rows versions.new.seen keys.new result }
 {
+    let m = ordered.wiring.m;
     let mut changed = 0;
     for p in 0..m {
-        let j = turns[way.place(m, p)];
-        changed += step(delays, from, to, registers, j, versions, keys);
+        let j = ordered.turns[way.place(m, p)];
+        changed += step(ordered, j, versions, keys);
     }
     changed
 }

@@ -5,7 +5,10 @@ use Rattle.keys.specs.Laws.Sweep.{settling_start}
 use Rattle.keys.proofs.fill_keys.Goals as goal
 
 pub loop-versions-init : goal.loop-versions-init
-loop-versions-init c = rw (c.new-versions.ensures.rows, c.new-versions.ensures.seen) (settling_start c.requires.0 c.blank.ensures)
+loop-versions-init c = rw (c.new-versions.ensures.rows, c.new-versions.ensures.seen) (settling_start c.args.ordered.now.wiring.now c.blank.ensures)
 
 pub returns : goal.returns
-returns c = let S = c.sweep.ensures in keyed _ _ c.requires.0.few_blocks c.requires.3 S.settling.standing (S.ended (omega arith))
+returns c =
+    let o = c.args.ordered.now in
+    let S = c.sweep.ensures in
+    keyed _ _ o.wiring.now.wires.few_blocks o.slow S.settling.standing (S.ended (omega arith))

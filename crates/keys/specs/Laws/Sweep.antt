@@ -1,10 +1,13 @@
 -- A sweep: its start, a wire met, its end.
 -- Assumes nothing.
 use Rattle.std.specs.Prelude.{◌≡◌, refl, ◌⊎◌, List, ℕ, ◌+◌, ◌*◌, ◌-◌, ◌/◌, ◌%◌, ◌≤◌, ◌<◌, length, get_or, set, replicate}
+use Rattle.std.specs.Coded.{le_prop}
+use Rattle.std.proofs.Math.Logic.{∥∥₁_elim}
 use Rattle.std.proofs.Common.{sym, ap, ◌∙◌, subst, inl, inr, arith, below_more, length-set}
 use Rattle.std.proofs.lemmas.List.{length-replicate, get_or-replicate}
 use Rattle.sheet.specs.Core.{Shape}
-use Rattle.paths.specs.Lists.{held, list_shape, Wires}
+use Rattle.paths.specs.Wired.{wired, weights}
+use Rattle.paths.specs.declared.wiring.Wiring.{Wiring}
 use Rattle.paths.proofs.Way.{Limits}
 use Rattle.keys.specs.Keys.{entry, Turns}
 use Rattle.keys.specs.declared.order.Direction.{Direction}
@@ -24,11 +27,11 @@ turn_every {m} {turns} T Backwards j h =
 turn_every T Forwards j h = T.every j h
 
 -- a wire lowers at most one entry for each start block
-pub stepped_few : {f t plus minus j : ℕ} {versions seen keys versions' seen' keys' : List ℕ} {r : ℕ} → Stepped f t plus minus j versions seen keys versions' seen' keys' r → r ≤ 64
+pub stepped_few : {s : Shape} {w : ℕ → ℕ} {j : ℕ} {versions seen keys versions' seen' keys' : List ℕ} {r : ℕ} → Stepped s w j versions seen keys versions' seen' keys' r → r ≤ 64
 stepped_few (idle z _ _ _ _) = omega (arith, z)
 stepped_few (tried _ _ L) = L.few
 
-stepped_less : {f t plus minus j : ℕ} {versions seen keys versions' seen' keys' : List ℕ} {r : ℕ} → Stepped f t plus minus j versions seen keys versions' seen' keys' r → sum keys' + r ≤ sum keys
+stepped_less : {s : Shape} {w : ℕ → ℕ} {j : ℕ} {versions seen keys versions' seen' keys' : List ℕ} {r : ℕ} → Stepped s w j versions seen keys versions' seen' keys' r → sum keys' + r ≤ sum keys
 stepped_less (idle z _ _ ek _) = rw (z, ek) (omega arith)
 stepped_less (tried _ _ L) = L.less
 
@@ -86,16 +89,16 @@ module _ {s : Shape} {w : ℕ → ℕ} where
       }
 
     -- wire j holds where it lowered nothing
-    met_now : Stepped (s.from j) (s.to j) (w j * 1048576) (s.delay (s.to j)) j versions seen keys versions' seen' keys' r → r ≡ 0 → (keys' ≡ keys) × Holds s w keys j
+    met_now : Stepped s w j versions seen keys versions' seen' keys' r → r ≡ 0 → (keys' ≡ keys) × Holds s w keys j
     met_now (idle _ _ _ ek q) z = (ek, X.quiet j hj q)
     met_now (tried _ _ L) z = (L.same z, λ u hu. omega (arith, L.lowered u hu, ap (λ (l : List ℕ). entry l u (s.to j)) (L.same z)))
 
-    settling_next : Stepped (s.from j) (s.to j) (w j * 1048576) (s.delay (s.to j)) j versions seen keys versions' seen' keys' r → Settling s w versions' seen' keys'
+    settling_next : Stepped s w j versions seen keys versions' seen' keys' r → Settling s w versions' seen' keys'
     settling_next (idle _ ev es ek _) = rw (ev, es, ek) X
     settling_next (tried ev es L) = settling_tried ev es L
 
   pub sweep_turn : Limits s w → s.n ≤ 64 → s.m ≤ 256 → {turn : ℕ → ℕ} {first versions seen keys versions' seen' keys' : List ℕ} {p changed r : ℕ} (j : ℕ) → j < s.m → j ≡ turn p
-      → Sweeping s w turn first p versions seen keys changed → Stepped (s.from j) (s.to j) (w j * 1048576) (s.delay (s.to j)) j versions seen keys versions' seen' keys' r → Sweeping s w turn first (p + 1) versions' seen' keys' (changed + r)
+      → Sweeping s w turn first p versions seen keys changed → Stepped s w j versions seen keys versions' seen' keys' r → Sweeping s w turn first (p + 1) versions' seen' keys' (changed + r)
   sweep_turn g narrow few_wires {turn} {first} {versions} {seen} {keys} {versions'} {seen'} {keys'} {p} {changed} {r} j hj is X Y = record {
     settling = settling_next g narrow few_wires j hj X.settling Y;
     few = omega (arith, X.few, stepped_few Y);
@@ -104,31 +107,30 @@ module _ {s : Shape} {w : ℕ → ℕ} where
         rw y.0 (below_more (λ (q : ℕ). Holds s w keys (turn q)) p (X.met (omega (arith, z))) (rw (← is) y.1));
   }
 
-  pub sweep_ends : {turns : List ℕ} (way : Direction) {first versions seen keys : List ℕ} {p changed : ℕ} → Turns s.m turns → s.m ≤ p → p ≤ s.m
+  pub sweep_ends : {turns : List ℕ} (way : Direction) {first versions seen keys : List ℕ} {p changed : ℕ} → ∥ Turns s.m turns ∥₁ → s.m ≤ p → p ≤ s.m
       → Sweeping s w (turn_at s.m turns way) first p versions seen keys changed → Swept s w first versions seen keys changed
   sweep_ends {turns} way {keys = keys} T h1 h2 X = record {
     settling = X.settling;
     less = X.less;
-    ended = λ z j hj. let y = turn_every T way j hj in subst (Holds s w keys) y.2 (X.met z y.0 (omega (arith, y.1)));
+    ended = λ z j hj u hu. ∥∥₁_elim T le_prop (λ t. let y = turn_every t way j hj in subst (Holds s w keys) y.2 (X.met z y.0 (omega (arith, y.1))) u hu);
   }
 
 -- before the first sweep no wire has seen its start's row
-pub settling_start : {n m : ℕ} {delays from to registers keys : List ℕ} → Wires n m from to registers → Blank n delays keys
-    → Settling (list_shape n m delays from to) (held registers) (replicate 64 1) (replicate 256 0) keys
-settling_start {n} {m} {delays} {from} {to} {registers} {keys} W B = record {
+pub settling_start : (w : Wiring) {delays keys : List ℕ} → Blank w.n delays keys → Settling (wired w delays) (weights w) (replicate 64 1) (replicate 256 0) keys
+settling_start w {delays} {keys} B = record {
   standing = T;
   long = length-replicate {A = ℕ} 64 1;
   wide = length-replicate {A = ℕ} 256 0;
   room = λ b. omega (arith, (counts_same 64 1 1 (omega arith)).few b, sum_most keys high, B.long);
   past = λ j h. omega (arith, seen j h);
-  quiet = λ j h q. absurd (omega (arith, q, seen j h, get_or-replicate {A = ℕ} 64 (get_or from j 0) 1 0 (omega (arith, W.from_block j h, W.few_blocks))));
+  quiet = λ j h q. absurd (omega (arith, q, seen j h, get_or-replicate {A = ℕ} 64 (get_or w.from j 0) 1 0 (omega (arith, w.wires.from_block j h, w.wires.few_blocks))));
 }
   where
-    T : Standing (list_shape n m delays from to) (held registers) keys
-    T = standing_blank (list_shape n m delays from to) (held registers) W.few_blocks B (λ b. refl)
+    T : Standing (wired w delays) (weights w) keys
+    T = standing_blank (wired w delays) (weights w) w.wires.few_blocks B (λ b. refl)
 
-    seen : (j : ℕ) → j < m → ◌≡◌ {A = ℕ} (get_or (replicate 256 0) j 0) 0
-    seen j h = get_or-replicate {A = ℕ} 256 j 0 0 (omega (arith, h, W.few_wires))
+    seen : (j : ℕ) → j < w.m → ◌≡◌ {A = ℕ} (get_or (replicate 256 0) j 0) 0
+    seen j h = get_or-replicate {A = ℕ} 256 j 0 0 (omega (arith, h, w.wires.few_wires))
 
     high : (i : ℕ) → i < length keys → get_or keys i 0 ≤ 2099249152
     high i h =
