@@ -1,60 +1,44 @@
-// The two lag questions, once the header is right: the quick way to lags, and the loop of a refusal where it finds none.
-ghost use Rattle.std.specs.Prelude.{◌≡◌, ◌+◌, ◌*◌, ◌≤◌, length};
-ghost use Rattle.sheet.specs.Core.{blocks_in, wires_in};
-ghost use Rattle.sheet.specs.Rules.{First};
-ghost use Rattle.sheet.specs.Sheet.{Framed};
-ghost use Rattle.paths.specs.Questions.{SoundSheet};
+// The two lag questions: the quick way to lags, and the loop of a refusal where it finds none.
+ghost use Rattle.std.specs.Prelude.{◌+◌, ◌*◌, ◌≤◌, length};
+ghost use Rattle.sheet.specs.Rules.{First, said};
 ghost use Rattle.promises.specs.Questions.{lags_outcome};
-ghost use Rattle.refusals.specs.Solving.{last_of, after_frame_of};
+ghost use Rattle.refusals.specs.Solving.{last_of};
+ghost use Rattle.periods.specs.Quick.{LagsBy};
 
-use crate::quick::{Found, quick};
-use paths::sound::check_sound;
+use crate::quick::quick;
+use paths::room::check_room;
+use paths::sound::{Sound, check_sound};
 use refusals::load::write_lags;
 use refusals::{Aim, refuse};
-use sheet::answer::{Answer, Stage, done, refusal};
+use sheet::frame::read_frame;
+use sheet::refusal::Refusal;
 
 // A lag question on a sound sheet.
-fn asked_sound(
-    s: &[u8],
-    n: usize,
-    m: usize,
+fn sound_lags(
+    sheet: Sound<'_>,
     aim: Aim,
     lags: &mut [i16],
     words: &mut [u16],
-) -> Answer
-    requires { SoundSheet s.now × (n ≡ blocks_in s.now) × (m ≡ wires_in s.now) × (n ≤ length lags.old) × (n * (n + 2) ≤ length words.old) }
-    ensures { First (last_of s.now aim lags.old words.old) (lags_outcome result lags.new words.new) }
+) -> Result<u32, Refusal>
+    requires { (sheet.n ≤ length lags.old) × (sheet.n * (sheet.n + 2) ≤ length words.old) }
+    ensures { First (last_of sheet.entry.bytes.now aim lags.old words.old) (lags_outcome (said result) lags.new words.new) }
 {
-    let mut e = [32768u32; 64];
-    match quick(s, n, m, aim, &mut e) {
-        Found::Nothing => refuse(s, n, m, aim, lags, words),
-        Found::Lags(value) => {
-            write_lags(n, &e, lags);
-            done(value)
+    match quick(sheet, aim) {
+        Some(found) => {
+            write_lags(sheet.n, &found.lags, lags);
+            Ok(found.value)
         }
+        None => refuse(sheet, aim, lags, words),
     }
 }
 
-// A lag question on a sheet whose header is right.
-pub fn asked_framed(
-    s: &[u8],
-    n: usize,
-    m: usize,
-    aim: Aim,
-    lags: &mut [i16],
-    words: &mut [u16],
-) -> Answer
-    requires { Framed s.now × (n ≡ blocks_in s.now) × (m ≡ wires_in s.now) }
-    ensures { First (after_frame_of s.now aim lags.old words.old) (lags_outcome result lags.new words.new) }
+// A lag question: n lags, then n(n + 2) words.
+pub fn lags_by(sheet: &[u8], aim: Aim, lags: &mut [i16], words: &mut [u16]) -> Result<u32, Refusal>
+    ensures { LagsBy sheet.now aim lags.old words.old (lags_outcome (said result) lags.new words.new) }
 {
-    if lags.len() < n {
-        return refusal(4, 0);
-    }
-    if words.len() < n * (n + 2) {
-        return refusal(4, 1);
-    }
-    if let Stage::Refuse(a) = check_sound(s, n, m) {
-        return a;
-    }
-    asked_sound(s, n, m, aim, lags, words)
+    let opened = read_frame(sheet)?;
+    let n = opened.n;
+    check_room(lags.len(), n, words.len(), n * (n + 2))?;
+    let sound = check_sound(opened)?;
+    sound_lags(sound, aim, lags, words)
 }

@@ -115,7 +115,7 @@ module _ (s : List ℕ) (l : List ℤ) (w : List ℕ) (last : List (Rule LagsOut
   sound_early o (inr (x, inr (y, inr f))) = absurd f.1
 
   -- where 4 does not apply the lists are long enough
-  long_of : None (lag_room s l w) → LongLists s l w
+  pub long_of : None (lag_room s l w) → LongLists s l w
   long_of n = record { lags_long = omega (arith, n.0); words_long = omega (arith, n.1.0) }
 
   -- one or the other
