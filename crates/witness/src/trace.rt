@@ -66,7 +66,13 @@ fn bare(sheet: Formed<'_>, given: &Given, u: usize, v: usize) -> bool
 }
 
 // The wires of a best path from u to v, in path order, at the end of the list lent.
-pub fn trace<'a>(sheet: Formed<'_>, given: &Given, u: usize, v: usize, wires: &'a mut [u16; 64]) -> &'a [u16]
+pub fn trace<'a>(
+    sheet: Formed<'_>,
+    given: &Given,
+    u: usize,
+    v: usize,
+    wires: &'a mut [u16; 64],
+) -> &'a [u16]
     requires { Tabled sheet.bytes.now given.now × (u < given.now.n) × (v < given.now.n) × (registers_at given.now u v < 4294967295) × (length wires.old ≡ 64) }
     ensures { Traced (shape_of sheet.entry.bytes.now) (registers_in sheet.entry.bytes.now) u v (registers_at given.now u v) (delay_at given.now u v) result.now }
 {

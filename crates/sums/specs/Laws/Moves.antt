@@ -95,4 +95,4 @@ module _ (s : List ℕ) (lags : List ℤ) (l : List ℕ) (h : SoundSheet s) (lag
   pub leaves_right : (place : ℕ) → T (every (leaves_tests (core_of s) (lags_in lags) place)) → MoveRight s lags l (move_outcome (answer 9 place 0) l)
   leaves_right place t =
       move_rest s lags l (move_outcome (answer 9 place 0) l) h.formed.framed
-      (move_forbidden s lags l (blocks_in s) refl lags_long long (answer 9 place 0) (sheet_sound s h) (leaves_told s (lags_in lags) place t))
+      (move_forbidden s lags l (λ k. omega (arith, lags_long), (λ k. omega (arith, long), tt)) (answer 9 place 0) (sheet_sound s h) (leaves_told s (lags_in lags) place t))
