@@ -3,7 +3,7 @@ use Rattle.std.specs.Prelude.{◌≡◌, List, ℕ, ◌+◌, ◌<◌, ◌≤◌,
 use Rattle.std.specs.Int.Signed.{mag}
 use Rattle.sheet.specs.Lag.{excess}
 use Rattle.sheet.specs.Core.{blocks_in, wires_in, delay_in, lower_in, upper_in, from_in, to_in, registers_in}
-use Rattle.sheet.specs.Rules.{First, refused}
+use Rattle.sheet.specs.Rules.{First, refusal_answer}
 use Rattle.sheet.specs.Sheet.{BlockGood, WireGood, Framed, frame_rules}
 use Rattle.sheet.specs.declared.block.Block.{Block}
 use Rattle.sheet.specs.declared.block.Limit.{Limit}
@@ -59,4 +59,4 @@ WireGiven s j (Err bad) = (bad.number ≡ j) × (WireGood s j → ⊥)
 
 abbrev pub FrameGiven : List ℕ → Result Opened Refusal → Type 0
 FrameGiven s (Ok sheet) = (sheet.bytes.now ≡ s) × (sheet.n ≡ blocks_in s) × (sheet.m ≡ wires_in s) × Framed s
-FrameGiven s (Err r) = First (frame_rules s) (refused r)
+FrameGiven s (Err r) = First (frame_rules s) (refusal_answer r)

@@ -9,25 +9,25 @@ abbrev pub answer : ℕ → ℕ → ℕ → Answer
 answer k p v = record { number = k; place = p; value = v }
 
 -- 01's number, place and value for each refusal. 01: "A refusal's value is 0, except the word count with 10 and 11."
-abbrev pub refused : Refusal → Answer
-refused R.Short = answer 1 0 0
-refused R.Counts = answer 2 0 0
-refused R.Offsets = answer 3 0 0
-refused R.FirstList = answer 4 0 0
-refused R.SecondList = answer 4 1 0
-refused (R.Block b) = answer 5 b 0
-refused (R.Wire j) = answer 6 j 0
-refused (R.Loop b) = answer 7 b 0
-refused (R.Lag b) = answer 8 b 0
-refused (R.Registers j) = answer 9 j 0
-refused (R.NoLags words) = answer 10 0 words
-refused (R.NoLagsAt words) = answer 11 0 words
-refused R.NoProof = answer 12 0 0
+abbrev pub refusal_answer : Refusal → Answer
+refusal_answer R.Short = answer 1 0 0
+refusal_answer R.Counts = answer 2 0 0
+refusal_answer R.Offsets = answer 3 0 0
+refusal_answer R.FirstList = answer 4 0 0
+refusal_answer R.SecondList = answer 4 1 0
+refusal_answer (R.Block b) = answer 5 b 0
+refusal_answer (R.Wire j) = answer 6 j 0
+refusal_answer (R.Loop b) = answer 7 b 0
+refusal_answer (R.Lag b) = answer 8 b 0
+refusal_answer (R.Registers j) = answer 9 j 0
+refusal_answer (R.NoLags words) = answer 10 0 words
+refusal_answer (R.NoLagsAt words) = answer 11 0 words
+refusal_answer R.NoProof = answer 12 0 0
 
 -- 01: "With answer 0 the value is the period in the two questions that give one, else 0."
 abbrev pub said : Result ℕ Refusal → Answer
 said (Ok value) = answer 0 0 value
-said (Err r) = refused r
+said (Err r) = refusal_answer r
 
 -- when a rule applies, and which outcomes it allows
 pub record Rule (A : Type 0) : Type 1 where
@@ -80,7 +80,7 @@ first_place P m says = record {
 -- what a stage of a question says: it refuses by its first rule that applies, or none applies
 abbrev pub Staged : {T : Type 0} → List (Rule Answer) → Result T Refusal → Type 0
 Staged rs (Ok x) = None rs
-Staged rs (Err r) = First rs (refused r)
+Staged rs (Err r) = First rs (refusal_answer r)
 
 -- what a test says of a fact
 abbrev pub Told : Type 0 → Bool → Type 0

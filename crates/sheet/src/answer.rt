@@ -1,6 +1,6 @@
 // What a question answers, and how a refusal is told.
 ghost use Rattle.std.specs.Prelude.{◌≡◌};
-ghost use Rattle.sheet.specs.Rules.{refused, said};
+ghost use Rattle.sheet.specs.Rules.{refusal_answer, said};
 
 use crate::refusal::Refusal;
 
@@ -14,7 +14,7 @@ pub struct Answer {
 
 // 01: "A refusal's value is 0, except the word count with 10 and 11."
 impl From<Refusal> for Answer {
-    ghost from_gives = { λ r a. a ≡ refused r };
+    ghost from_gives = { λ r a. a ≡ refusal_answer r };
 
     fn from(refusal: Refusal) -> Answer {
         let (number, place, value) = match refusal {

@@ -3,7 +3,7 @@
 use Rattle.std.specs.Prelude.{◌≡◌, refl, ◌⊎◌, List, [], ◌∷◌, ◌++◌, Bool, true, false, ℕ, ◌<◌, ◌≤◌, Result, Ok, Err}
 use Rattle.std.proofs.Common.{sym, ap, ◌∙◌, subst, inl, inr, arith}
 use Rattle.std.proofs.Math.Decide.{dec_lt}
-use Rattle.sheet.specs.Rules.{Rule, First, None, Tight, Exact, stage, FirstOf, first_place, Staged, Told, refused as told}
+use Rattle.sheet.specs.Rules.{Rule, First, None, Tight, Exact, stage, FirstOf, first_place, Staged, Told, refusal_answer}
 use Rattle.sheet.specs.declared.answer.Answer.{Answer}
 use Rattle.sheet.specs.declared.refusal.Refusal.{Refusal}
 
@@ -95,7 +95,7 @@ unstage keep says back (r ∷ rs) ts o (inr f) = go (unstage keep says back rs t
 
 -- what a stage's result says once its case is known
 module _ {T : Type 0} (rs : List (Rule Answer)) (o : Result T Refusal) where
-  pub refused : (r : Refusal) → Staged rs o → o ≡ Err r → First rs (told r)
+  pub refused : (r : Refusal) → Staged rs o → o ≡ Err r → First rs (refusal_answer r)
   refused r h e = subst (Staged rs) e h
 
   pub passed : (x : T) → Staged rs o → o ≡ Ok x → None rs
@@ -141,7 +141,7 @@ told_false P b h e = subst (Told P) e h
 -- a later stage after rules of which none applies
 pub staged_after : {T : Type 0} (rs ts : List (Rule Answer)) (o : Result T Refusal) → None rs → Staged ts o → Staged (rs ++ ts) o
 staged_after rs ts (Ok x) n h = none_both rs ts n h
-staged_after rs ts (Err r) n h = first_right rs ts (told r) n h
+staged_after rs ts (Err r) n h = first_right rs ts (refusal_answer r) n h
 
 -- ---- an answer 0 comes from none of the refusals
 abbrev pub NonZero : List (Rule Answer) → Type 0
