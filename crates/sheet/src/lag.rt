@@ -1,4 +1,5 @@
-// Lags and their excess numbers.
+// Lags and their excess numbers. An excess number is a u32 in lists that become vectors: a type of its own, with `From`,
+// would be taken off at each use.
 ghost use Rattle.std.specs.Prelude.{◌≡◌, ◌<◌};
 ghost use Rattle.sheet.specs.Lag.{lag_of};
 ghost use Rattle.sheet.specs.Reads.{ExcessIs};

@@ -19,7 +19,8 @@ pub enum Rule {
     Ceiling(usize),
 }
 
-// What the solver is given: n blocks with their limits, m wires with their ends and the bounds of their rules, and the path table.
+// What the solver is given: n blocks with their limits, m wires with their ends and the bounds of their rules, and the path
+// table. Lists side by side and not one of wires: what is proved of rules speaks of each list by itself (`Fit`).
 #[derive(Drop)]
 pub struct Given {
     pub n: usize,

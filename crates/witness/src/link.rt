@@ -10,7 +10,7 @@ use crate::trace::trace;
 use sheet::opened::Formed;
 use solver::{Given, Rule};
 
-// The kinds of links, as a loop's words number them.
+// The kinds of links, as a loop's words number them: numbers, since 01 has them so and `check_loop` reads them so.
 const WIRE: u16 = 1;
 
 const PATH: u16 = 2;
