@@ -16,10 +16,13 @@ pub fn load_rules(sheet: Sound<'_>, keys: &mut [u32; 4096]) -> Limits
 {
     let formed = sheet.formed();
     let wiring = Wiring::of(formed);
+    let delays = formed.delays();
+    let mut turns = [0; 256];
+    in_turn(&wiring, &mut turns);
     let ordered = Ordered {
         wiring: &wiring,
-        delays: &formed.delays(),
-        turns: &in_turn(&wiring),
+        delays: &delays,
+        turns: &turns,
     };
     fill_keys(&ordered, keys);
     fold_ceilings(&wiring, keys);

@@ -27,12 +27,10 @@ pub fn try_wire(keys: &mut [u32; 4096], f: usize, t: usize, plus: u32, minus: u3
     for s in 0..64 {
         let x = keys[f * 64 + s] + plus - minus;
         let old = keys[t * 64 + s];
-        let mut new = old;
+        keys[t * 64 + s] = x.min(old);
         if x < old {
-            new = x;
             changed += 1;
         }
-        keys[t * 64 + s] = new;
     }
     changed
 }

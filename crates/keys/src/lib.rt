@@ -38,17 +38,17 @@ pub fn fold_ceilings(wiring: &Wiring, keys: &mut [u32; 4096])
 }
 
 // The wires in the order of the heights of the blocks that they lead to: a table filled in this order settles in few sweeps.
-pub fn in_turn(wiring: &Wiring) -> [usize; 256]
-    ensures { Turns wiring.now.m result }
+// The lists are lent: given by value, each would stand on the stack three times.
+pub fn in_turn(wiring: &Wiring, turns: &mut [usize; 256])
+    ensures { Turns wiring.now.m turns.new }
 {
     let height = heights(wiring);
-    let mut starts = add_up(&count(wiring, &height));
+    let mut starts = [0; 128];
+    count(wiring, &height, &mut starts);
+    add_up(&mut starts);
     let mut places = [0; 256];
-    let mut turns = [0; 256];
-    place(wiring, &height, &mut starts, &mut places, &mut turns);
-    if complete(wiring.m, &places, &turns) {
-        turns
-    } else {
-        plain()
+    place(wiring, &height, &mut starts, &mut places, turns);
+    if !complete(wiring.m, &places, turns) {
+        plain(turns);
     }
 }
