@@ -83,7 +83,20 @@ pub fn refuse(s: &[u8], n: usize, m: usize, aim: Aim, lags: &mut [i16], words: &
     requires { SoundSheet s.now × (n ≡ blocks_in s.now) × (m ≡ wires_in s.now) × (n ≤ length lags.old) × (n * (n + 2) ≤ length words.old) × Hopeless s.now aim }
     ensures { First (last_of s.now aim lags.old words.old) (lags_outcome result lags.new words.new) }
 {
-    let mut given = load(s, n, m);
+    let mut given = Given {
+        n,
+        m,
+        period: u32::MAX,
+        lower: [0; 64],
+        upper: [0; 64],
+        from: [0; 256],
+        to: [0; 256],
+        wires: [0; 256],
+        ceilings: [0; 256],
+        registers: [0; 4096],
+        delays: [0; 4096],
+    };
+    load(s, &mut given);
     let mut standing = Standing::at_limits(&given);
     if let Err(a) = solve(s, 10, &given, &mut standing, words) {
         return a;

@@ -4,7 +4,7 @@ ghost use Rattle.sheet.specs.Core.{blocks_in, wires_in, ceiling_of};
 ghost use Rattle.sheet.specs.Filled.{filled};
 ghost use Rattle.sheet.specs.Lag.{lag_of};
 ghost use Rattle.paths.specs.Questions.{SoundSheet};
-ghost use Rattle.refusals.specs.Load.{wire_bound, ceiling_bound, Loaded};
+ghost use Rattle.refusals.specs.Load.{wire_bound, ceiling_bound, Unused, Loaded};
 
 use sheet::lag::lag_of;
 use sheet::load::{load_limits, load_wires};
@@ -25,29 +25,23 @@ fn bound_lists(m: usize, registers: &[u32; 256], wires: &mut [u32; 256], ceiling
     }
 }
 
-// All that the solver is given but a path table; no path is slower than the longest period.
-pub fn load(s: &[u8], n: usize, m: usize) -> Given
-    requires { SoundSheet s.now × (n ≡ blocks_in s.now) × (m ≡ wires_in s.now) }
-    ensures { Loaded s.now result }
+// All that the solver is given but a path table: at the longest period no path is too slow.
+pub fn load(s: &[u8], given: &mut Given)
+    requires sheet { SoundSheet s.now × (given.old.n ≡ blocks_in s.now) × (given.old.m ≡ wires_in s.now) }
+    requires unused { Unused given.old }
+    ensures { Loaded s.now given.new }
 {
-    let mut given = Given {
-        n,
-        m,
-        period: u32::MAX,
-        lower: [0; 64],
-        upper: [0; 64],
-        from: [0; 256],
-        to: [0; 256],
-        wires: [0; 256],
-        ceilings: [0; 256],
-        registers: [0; 4096],
-        delays: [0; 4096],
-    };
     let mut own = [0u32; 256];
-    load_limits(s, n, &mut given.lower, &mut given.upper);
-    load_wires(s, n, m, &mut given.from, &mut given.to, &mut own);
-    bound_lists(m, &own, &mut given.wires, &mut given.ceilings);
-    given
+    load_limits(s, given.n, &mut given.lower, &mut given.upper);
+    load_wires(
+        s,
+        given.n,
+        given.m,
+        &mut given.from,
+        &mut given.to,
+        &mut own,
+    );
+    bound_lists(given.m, &own, &mut given.wires, &mut given.ceilings);
 }
 
 // The first n lags, from their excess numbers.

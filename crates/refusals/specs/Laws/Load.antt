@@ -1,6 +1,6 @@
 -- Lists that were loaded from a sound sheet are what the solver is given.
 -- Assumes nothing.
-use Rattle.std.specs.Prelude.{◌≡◌, refl, List, ℕ, ◌+◌, ◌*◌, ◌≤◌, ◌<◌, length, get_or, replicate}
+use Rattle.std.specs.Prelude.{◌≡◌, refl, List, ℕ, ◌+◌, ◌*◌, ◌≤◌, ◌<◌, length, get_or}
 use Rattle.std.proofs.Common.{ap, ◌∙◌, arith}
 use Rattle.std.proofs.lemmas.List.{length-replicate}
 use Rattle.sheet.specs.Lag.{excess}
@@ -12,10 +12,10 @@ use Rattle.paths.specs.Table.{Entry, best, none}
 use Rattle.paths.specs.Questions.{SoundSheet}
 use Rattle.paths.specs.Laws.Questions.{sound_core}
 use Rattle.solver.specs.declared.Given.{Given}
-use Rattle.solver.specs.System.{Fit}
-use Rattle.solver.specs.Laws.Begun.{blank, blank_quick}
+use Rattle.solver.specs.System.{Fit, Within}
+use Rattle.solver.specs.Laws.Begun.{blank_quick}
 use Rattle.witness.specs.Stands.{Stands}
-use Rattle.refusals.specs.Load.{wire_bound, ceiling_bound, Loaded}
+use Rattle.refusals.specs.Load.{wire_bound, ceiling_bound, Unused, Loaded}
 use Rattle.tables.specs.Laws.Small.{best_few}
 use Rattle.refusals.specs.Laws.Solved.{entry_slow}
 
@@ -73,69 +73,69 @@ entry_is f n l₀ l e h i k = ap (λ (x : List ℕ). get_or x i 0) e ∙ filled_
 pub long_is : (f : ℕ → ℕ) (n k : ℕ) (l₀ l : List ℕ) → l ≡ filled f n l₀ → length l₀ ≡ k → length l ≡ k
 long_is f n k l₀ l e h = ap length e ∙ length_filled f n l₀ ∙ h
 
--- ---- the lists as they are loaded, all of zeros before
-zeros : (k : ℕ) → length {A = ℕ} (replicate k 0) ≡ k
-zeros k = length-replicate {A = ℕ} k 0
-
-module _ (s : List ℕ) (S : SoundSheet s) (n m : ℕ) (n_is : n ≡ blocks_in s) (m_is : m ≡ wires_in s) where
-  few_blocks : n ≤ 64
+-- ---- the lists, before (g) and after they are loaded
+module _ (s : List ℕ) (S : SoundSheet s) (g : Given) (n_is : g.n ≡ blocks_in s) (m_is : g.m ≡ wires_in s) where
+  few_blocks : g.n ≤ 64
   few_blocks = omega (arith, S.formed.framed.few_blocks)
 
-  pub few_wires : m ≤ 256
+  pub few_wires : g.m ≤ 256
   few_wires = omega (arith, S.formed.framed.few_wires)
 
   -- the registers of the wires, in a list of their own
-  module _ (own : List ℕ) (own_is : own ≡ filled (registers_in s) m (replicate 256 0)) where
+  module _ (own₀ own : List ℕ) (long : length own₀ ≡ 256) (own_is : own ≡ filled (registers_in s) g.m own₀) where
     pub own_long : length own ≡ 256
-    own_long = long_is (registers_in s) m 256 _ own own_is (zeros 256)
+    own_long = long_is (registers_in s) g.m 256 own₀ own own_is long
 
-    own_at : (j : ℕ) → j < m → get_or own j 0 ≡ registers_in s j
-    own_at = entry_is (registers_in s) m _ own own_is (omega (arith, few_wires, zeros 256))
+    own_at : (j : ℕ) → j < g.m → get_or own j 0 ≡ registers_in s j
+    own_at = entry_is (registers_in s) g.m own₀ own own_is (omega (arith, few_wires))
 
-    pub own_few : (j : ℕ) → j < m → get_or own j 0 ≤ 2000
+    pub own_few : (j : ℕ) → j < g.m → get_or own j 0 ≤ 2000
     own_few j h = omega (arith, own_at j h, (S.formed.wire j (omega arith)).few)
 
-    module _ {lower upper from to wires ceilings : List ℕ}
-        (limits : (lower ≡ filled (λ b. excess (lower_in s b)) n (replicate 64 0)) × (upper ≡ filled (λ b. excess (upper_in s b)) n (replicate 64 0)))
-        (from_is : from ≡ filled (from_in s) m (replicate 256 0)) (to_is : to ≡ filled (to_in s) m (replicate 256 0))
-        (bounds : (wires ≡ filled (λ j. wire_bound (get_or own j 0)) m (replicate 256 0)) × (ceilings ≡ filled (λ j. ceiling_bound (ceiling_of 0) (get_or own j 0)) m (replicate 256 0))) where
+    module _ {lower upper from to wires ceilings : List ℕ} (R : Unused g)
+        (limits : (lower ≡ filled (λ b. excess (lower_in s b)) g.n g.lower) × (upper ≡ filled (λ b. excess (upper_in s b)) g.n g.upper))
+        (from_is : from ≡ filled (from_in s) g.m g.from) (to_is : to ≡ filled (to_in s) g.m g.to)
+        (bounds : (wires ≡ filled (λ j. wire_bound (get_or own j 0)) g.m g.wires) × (ceilings ≡ filled (λ j. ceiling_bound (ceiling_of 0) (get_or own j 0)) g.m g.ceilings)) where
       abbrev held : Given
-      held = record { n = n; m = m; period = 4294967295; lower = lower; upper = upper; from = from; to = to; wires = wires; ceilings = ceilings; registers = blank; delays = blank }
+      held = record g { lower = lower; upper = upper; from = from; to = to; wires = wires; ceilings = ceilings }
+
+      quick : Within g.delays g.period
+      quick = rw R.delays_are (blank_quick g.period)
 
       loaded_stands : Stands s held
       loaded_stands = record {
         sound = S;
         n_is = n_is;
         m_is = m_is;
-        lower_is = λ b h. entry_is _ n _ lower limits.0 (omega (arith, few_blocks, zeros 64)) b (omega arith);
-        upper_is = λ b h. entry_is _ n _ upper limits.1 (omega (arith, few_blocks, zeros 64)) b (omega arith);
-        from_is = λ j h. entry_is _ m _ from from_is (omega (arith, few_wires, zeros 256)) j (omega arith);
-        to_is = λ j h. entry_is _ m _ to to_is (omega (arith, few_wires, zeros 256)) j (omega arith);
+        lower_is = λ b h. entry_is _ g.n g.lower lower limits.0 (omega (arith, few_blocks, R.lower_long)) b (omega arith);
+        upper_is = λ b h. entry_is _ g.n g.upper upper limits.1 (omega (arith, few_blocks, R.upper_long)) b (omega arith);
+        from_is = λ j h. entry_is _ g.m g.from from from_is (omega (arith, few_wires, R.from_long)) j (omega arith);
+        to_is = λ j h. entry_is _ g.m g.to to to_is (omega (arith, few_wires, R.to_long)) j (omega arith);
         wires_is = λ j h.
-            let k : j < m = omega arith in
-            omega (arith, entry_is _ m _ wires bounds.0 (omega (arith, few_wires, zeros 256)) j k, own_at j k);
+            let k : j < g.m = omega arith in
+            omega (arith, entry_is _ g.m g.wires wires bounds.0 (omega (arith, few_wires, R.wires_long)) j k, own_at j k);
         ceilings_is = λ j h.
-            let k : j < m = omega arith in
-            omega (arith, entry_is _ m _ ceilings bounds.1 (omega (arith, few_wires, zeros 256)) j k, own_at j k, own_few j k);
-        table = λ x. absurd (omega (arith, x.slow, (blank_quick 4294967295).all (x.a * n + x.b)));
+            let k : j < g.m = omega arith in
+            omega (arith, entry_is _ g.m g.ceilings ceilings bounds.1 (omega (arith, few_wires, R.ceilings_long)) j k, own_at j k, own_few j k);
+        table = λ x. absurd (omega (arith, x.slow, quick.all (x.a * g.n + x.b)));
       }
 
       loaded_long : Long held
       loaded_long = record {
-        lower_long = long_is _ n 64 _ lower limits.0 (zeros 64);
-        upper_long = long_is _ n 64 _ upper limits.1 (zeros 64);
-        from_long = long_is _ m 256 _ from from_is (zeros 256);
-        to_long = long_is _ m 256 _ to to_is (zeros 256);
-        wires_long = long_is _ m 256 _ wires bounds.0 (zeros 256);
-        ceilings_long = long_is _ m 256 _ ceilings bounds.1 (zeros 256);
-        registers_long = zeros 4096;
-        delays_long = zeros 4096;
+        lower_long = long_is _ g.n 64 g.lower lower limits.0 R.lower_long;
+        upper_long = long_is _ g.n 64 g.upper upper limits.1 R.upper_long;
+        from_long = long_is _ g.m 256 g.from from from_is R.from_long;
+        to_long = long_is _ g.m 256 g.to to to_is R.to_long;
+        wires_long = long_is _ g.m 256 g.wires wires bounds.0 R.wires_long;
+        ceilings_long = long_is _ g.m 256 g.ceilings ceilings bounds.1 R.ceilings_long;
+        registers_long = ap length R.registers_are ∙ length-replicate {A = ℕ} 4096 0;
+        delays_long = ap length R.delays_are ∙ length-replicate {A = ℕ} 4096 0;
       }
 
       pub loaded : Loaded s held
       loaded = record {
         held = record { stands = loaded_stands; fit = stands_fits loaded_stands loaded_long };
-        period_is = refl;
-        registers_are = refl;
-        delays_are = refl;
+        period_is = R.period_is;
+        registers_are = R.registers_are;
+        delays_are = R.delays_are;
       }
