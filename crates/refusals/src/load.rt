@@ -15,7 +15,7 @@ const CEILING: u32 = 2000;
 
 // The bounds of each wire's rule and of its ceiling's, from the wires' registers.
 fn bound_lists(m: usize, registers: &[u32; 256], wires: &mut [u32; 256], ceilings: &mut [u32; 256])
-    requires { (m ≤ 256) × (length registers.now ≡ 256) × (length wires.old ≡ 256) × (length ceilings.old ≡ 256) × ((j : ℕ) → j < m → get_or registers.now j 0 ≤ 2000) }
+    requires { (m ≤ 256) × ((j : ℕ) → j < m → get_or registers.now j 0 ≤ 2000) }
     ensures { (wires.new ≡ filled (λ j. wire_bound (get_or registers.now j 0)) m wires.old) × (ceilings.new ≡ filled (λ j. ceiling_bound (ceiling_of 0) (get_or registers.now j 0)) m ceilings.old) }
 {
     for j in 0..m {

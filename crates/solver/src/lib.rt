@@ -20,6 +20,7 @@ pub enum Rule {
 }
 
 // What the solver is given: n blocks with their limits, m wires with their ends and the bounds of their rules, and the path table.
+// A list for each number of a block and of a wire, as sheet::load fills them.
 #[derive(Drop)]
 pub struct Given {
     pub n: usize,

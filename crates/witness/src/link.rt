@@ -11,9 +11,13 @@ use solver::{Given, Rule};
 
 // The kinds of links, as a loop's words number them.
 const WIRE: u16 = 1;
+
 const PATH: u16 = 2;
+
 const UPPER: u16 = 3;
+
 const LOWER: u16 = 4;
+
 const CEILING: u16 = 5;
 
 // The words of a link of a kind other than a path's; how many they are.

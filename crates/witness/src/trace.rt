@@ -11,7 +11,7 @@ use solver::Given;
 
 // Where a wire out of block f starts in row u of one of the path table's lists: the bare start block has its own number.
 fn base(table: &[u32; 4096], n: usize, u: usize, f: usize, own: u32) -> u32
-    requires { (length table.now ≡ 4096) × (n ≤ 64) × (u < n) × (f < n) }
+    requires { (n ≤ 64) × (u < n) × (f < n) }
     ensures { Based own u f (get_or table.now (u * n + f) 0) result }
 {
     if f == u { own } else { table[u * n + f] }
@@ -70,7 +70,7 @@ fn bare(s: &[u8], given: &Given, u: usize, v: usize) -> bool
 
 // The wires of a best path from u to v, in path order, at the end of the list lent.
 pub fn trace<'a>(s: &[u8], given: &Given, u: usize, v: usize, wires: &'a mut [u16; 64]) -> &'a [u16]
-    requires { Tabled s.now given.now × (u < given.now.n) × (v < given.now.n) × (registers_at given.now u v < 4294967295) × (length wires.old ≡ 64) }
+    requires { Tabled s.now given.now × (u < given.now.n) × (v < given.now.n) × (registers_at given.now u v < 4294967295) }
     ensures { Traced (shape_of s.now) (registers_in s.now) u v (registers_at given.now u v) (delay_at given.now u v) result.now }
 {
     if bare(s, given, u, v) {

@@ -83,9 +83,6 @@ module _ (s : List ℕ) (S : SoundSheet s) (g : Given) (n_is : g.n ≡ blocks_in
 
   -- the registers of the wires, in a list of their own
   module _ (own₀ own : List ℕ) (long : length own₀ ≡ 256) (own_is : own ≡ filled (registers_in s) g.m own₀) where
-    pub own_long : length own ≡ 256
-    own_long = long_is (registers_in s) g.m 256 own₀ own own_is long
-
     own_at : (j : ℕ) → j < g.m → get_or own j 0 ≡ registers_in s j
     own_at = entry_is (registers_in s) g.m own₀ own own_is (omega (arith, few_wires))
 

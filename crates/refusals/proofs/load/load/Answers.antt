@@ -1,16 +1,15 @@
 -- The lists hold the sheet's numbers, and there is no path table.
 use Rattle.std.proofs.Common.{ℕ}
 use Rattle.std.proofs.lemmas.List.{length-replicate}
-use Rattle.refusals.specs.Laws.Load.{few_wires, own_long, own_few, loaded}
+use Rattle.refusals.specs.Laws.Load.{few_wires, own_few, loaded}
 use Rattle.refusals.proofs.load.load.Goals as goal
 
 pub bound_lists-requires : goal.bound_lists-requires
 bound_lists-requires c =
     let p = c.requires.sheet in
     let g = c.args.given.now in
-    let R = c.requires.unused in
     let zeros = length-replicate {A = ℕ} 256 0 in
-    (few_wires _ p.0 g p.1 p.2, own_long _ p.0 g p.1 p.2 _ _ zeros c.load_wires.ensures.2, R.wires_long, R.ceilings_long, own_few _ p.0 g p.1 p.2 _ _ zeros c.load_wires.ensures.2)
+    (few_wires _ p.0 g p.1 p.2, own_few _ p.0 g p.1 p.2 _ _ zeros c.load_wires.ensures.2)
 
 pub returns : goal.returns
 returns c =
