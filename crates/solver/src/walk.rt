@@ -17,5 +17,5 @@ pub fn meets(n: usize, next: &[usize; 64], a: usize, b: usize) -> bool
         }
         v = next[v];
     }
-    false
+    unreachable!()
 }

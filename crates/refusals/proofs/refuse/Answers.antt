@@ -9,6 +9,3 @@ returns-in-Err c = first_refuses c.args.lags.now _ c.in-Err.is c.args.aim c.load
 
 pub unreachable-requires : goal.unreachable-requires
 unreachable-requires c = hopeless_rest (subst (Hopeless _) c.in-Least.is c.requires.5) (solved_rests c.solve.ensures c.in_default.is).0
-
-pub returns : goal.returns
-returns c = rw c.in-At.is (rw (solved_rests c.solve.ensures c.in_default.is).1 at c.lags_within.ensures)
