@@ -40,11 +40,6 @@ Turned g Done t t' (Ok lowered) = Swept g Done t t' lowered
 Turned g Done t t' (Err x) = State g t' × Stuck g t' x
 
 -- ---- what the sweeps go over: the rules from lists of the wires' ends, and the rules of the path table, row by row
-pub record Wires (g : Given) (from to bounds : List ℕ) : Type 0 where
-  pub from_long : length from ≡ 256
-  pub to_long : length to ≡ 256
-  pub bounds_long : length bounds ≡ 256
-
 -- the rules of the first k wires hold
 abbrev pub WiresHold : List ℕ → List ℕ → List ℕ → ℕ → List ℕ → Type 0
 WiresHold from to bounds k e = (j : ℕ) → j < k → Holds e (get_or from j 0) (get_or to j 0) (get_or bounds j 0)

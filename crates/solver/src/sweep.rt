@@ -1,7 +1,7 @@
 // Sweeps: the rules of a kind, one after another; and whether there is a path rule at all.
 ghost use Rattle.std.specs.Prelude.{◌≡◌, ℕ, ◌<◌, length, get_or};
 ghost use Rattle.solver.specs.System.{Says, Within};
-ghost use Rattle.solver.specs.State.{State, Turned, Wires, WiresHold, RowHolds, PathsHold};
+ghost use Rattle.solver.specs.State.{State, Turned, WiresHold, RowHolds, PathsHold};
 
 use crate::{Broken, Given, Rule, Standing};
 
@@ -16,7 +16,6 @@ impl Standing {
         rule: F,
     ) -> Result<bool, Broken>
         requires state { State given.now self.old }
-        requires wires { Wires given.now from.now to.now bounds.now }
         requires rules { (j : ℕ) → j < given.now.m → F.pre rule j × ((r : _) → F.post rule j r → Says given.now r (get_or from.now j 0) (get_or to.now j 0) (get_or bounds.now j 0)) }
         ensures { Turned given.now (WiresHold from.now to.now bounds.now given.now.m) self.old self.new result }
     {
@@ -54,7 +53,6 @@ impl Standing {
 
 // The longest delay of the path table: at a period that is no shorter there is no path rule.
 pub fn longest_delay(delays: &[u32; 4096]) -> u32
-    requires { length delays.now ≡ 4096 }
     ensures { Within delays.now result }
 {
     let mut longest = 0;

@@ -4,7 +4,7 @@ ghost use Rattle.solver.specs.Walk.{Rooted, Met};
 
 // Whether the walk from b meets a.
 pub fn meets(n: usize, next: &[usize; 64], a: usize, b: usize) -> bool
-    requires { Rooted n next.now × (b < n) × (n ≤ 64) × (length next.now ≡ 64) }
+    requires { Rooted n next.now × (b < n) }
     ensures { Met next.now a b result }
 {
     let mut v = b;
@@ -17,5 +17,5 @@ pub fn meets(n: usize, next: &[usize; 64], a: usize, b: usize) -> bool
         }
         v = next[v];
     }
-    false
+    unreachable!()
 }

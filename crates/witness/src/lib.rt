@@ -17,7 +17,7 @@ mod trace; // a path link's wires
 
 // Where the walk of links from b ends: at a, or at the host if it does not meet a.
 fn walk_end(n: usize, next: &[usize; 64], a: usize, b: usize) -> usize
-    requires { Rooted n next.now × (b < n) × (n ≤ 64) × (length next.now ≡ 64) }
+    requires { Rooted n next.now × (b < n) }
     ensures { Ends next.now a b result }
 {
     if meets(n, next, a, b) { a } else { 0 }

@@ -1,6 +1,6 @@
 -- Walks along links: they are short, they pass no block twice, and a new link keeps every walk's end.
 -- Assumes nothing.
-use Rattle.std.specs.Prelude.{ℕ, zero, suc, ◌+◌, ◌<◌, ◌≤◌, ◌≡◌, refl, List, true, false, length, get_or, set, replicate}
+use Rattle.std.specs.Prelude.{ℕ, zero, suc, ◌+◌, ◌<◌, ◌≤◌, ◌≡◌, refl, List, false, length, get_or, set, replicate}
 use Rattle.std.proofs.Common.{ap, sym, subst, ◌∙◌, arith, add-one, below_more, length-set, get_or-set_same, get_or-set_other}
 use Rattle.std.proofs.Math.Decide.{ℕ_discrete}
 use Rattle.std.proofs.lemmas.List.{get_or-replicate, length-replicate}
@@ -105,9 +105,6 @@ module _ {n : ℕ} {par : List ℕ} {a b v k : ℕ} (R : Rooted n par) (W : Walk
             below_more (λ j. (iter par j b ≡ a → ⊥) × (iter par j b ≡ 0 → ⊥)) k W.past
             ((λ q. na (sym W.here ∙ q)), (λ q. nz (sym W.here ∙ q)));
       }
-
-  pub walk_hit : v ≡ a → Met par a b true
-  walk_hit q = record { steps = k; there = W.here ∙ q; past = W.past }
 
   pub walk_end : (v ≡ a → ⊥) → v ≡ 0 → Met par a b false
   walk_end na z = record { apart = λ q. na (W.apart q); rooted = λ x. W.back x 0 z; steps = k; there = W.here ∙ z; past = W.past }

@@ -1,6 +1,6 @@
 -- A wire that completes an entry by its numbers leads back from a best entry, and a path found backward is short.
 -- Assumes nothing.
-use Rattle.std.specs.Prelude.{◌≡◌, refl, ◌⊎◌, List, [], ◌∷◌, ◌++◌, ℕ, suc, ◌+◌, ◌*◌, ◌≤◌, ◌<◌, length, set, drop}
+use Rattle.std.specs.Prelude.{◌≡◌, refl, ◌⊎◌, List, [], ◌∷◌, ◌++◌, ℕ, suc, ◌+◌, ◌<◌, length, set, drop}
 use Rattle.std.proofs.Common.{sym, ap, ◌∙◌, subst, inl, inr, arith, length-append, length-drop, length-set, drop_of_length-le, drop-cons, get_or-set_same, drop-set-lt}
 use Rattle.std.proofs.Math.Decide.{ℕ_discrete}
 use Rattle.sheet.specs.Core.{Shape, wires_in, delay_in, from_in, registers_in, shape_of}
@@ -10,13 +10,8 @@ use Rattle.paths.specs.Table.{LoopAt, Best, Entry, best, none}
 use Rattle.paths.specs.Laws.Path.{passes_all, joins_append, joins_start_lt, joins_end_lt, between_passes, registers_append}
 use Rattle.tables.specs.Back.{Completed}
 use Rattle.tables.specs.Laws.Entry.{entry_unique, fewest_short, backward}
-use Rattle.paths.specs.Laws.Parts.{row_before, square_small}
 use Rattle.solver.specs.declared.Given.{Given}
-use Rattle.witness.specs.Trace.{registers_at, delay_at, Tabled, Based, NoneBefore, Bare, Apart, Traced, Suffix, Tracing}
-
--- an entry of a table of n blocks is inside 4,096
-pub entry_in : (n u v : ℕ) → n ≤ 64 → u < n → v < n → u * n + v < 4096
-entry_in n u v h k l = omega (arith, row_before n u n k, square_small n h)
+use Rattle.witness.specs.Trace.{registers_at, delay_at, Tabled, Based, NoneBefore, Apart, Traced, Suffix, Tracing}
 
 module _ (s : Shape) (w : ℕ → ℕ) where
   pub entry_best : (u v W D : ℕ) → Entry s w u v W D → W < 4294967295 → Best s w u v W D
@@ -101,12 +96,6 @@ module _ (s : List ℕ) (g : Given) (t : Tabled s g) where
 
   -- ---- the wires found, in path order
   module _ (u v : ℕ) (k : u < g.n) (l : v < g.n) where
-    pub bare_traced : (wires : List ℕ) → length wires ≡ 64 → Bare (shape_of s) (registers_in s) u v (registers_at g u v) (delay_at g u v)
-        → Traced (shape_of s) (registers_in s) u v (registers_at g u v) (delay_at g u v) (drop 64 wires)
-    bare_traced wires e h =
-        rw (drop_of_length-le wires {i = 64} (omega arith))
-        (record { joins = (omega (arith, t.n_is), sym h.0); registers_is = sym h.1; delay_is = sym h.2; short = omega (arith, t.n_is) })
-
     pub tracing_start : (wires : List ℕ) → length wires ≡ 64 → registers_at g u v < 4294967295 → Apart (shape_of s) (registers_in s) u v (registers_at g u v) (delay_at g u v)
         → Tracing s g u v v 64 wires
     tracing_start wires e small far =
@@ -159,9 +148,6 @@ module _ (s : List ℕ) (g : Given) (t : Tabled s g) where
           tracing_end z = rw stored (suffix_ends (shape_of s) (registers_in s) t.sound.free u v _ _ b _ _ (drop at wires) h.suffix j c (sym q ∙ z))
 
   module _ (u v W D j : ℕ) (f t' w : ℕ) (x : WireIs s j f t' w) where
-    pub other_end : (t' ≡ v → ⊥) → Completed (shape_of s) (registers_in s) u v W D j → ⊥
-    other_end bad c = bad (x.to_is ∙ c.end)
-
     module _ (k : u < g.n) where
       from_entry : Entry (shape_of s) (registers_in s) u f (registers_at g u f) (delay_at g u f)
       from_entry = entry_of u f k (omega (arith, x.from_block, t.n_is))

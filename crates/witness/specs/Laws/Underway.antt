@@ -1,7 +1,7 @@
 -- The walk as code goes along it, from where the solver stopped.
 -- Assumes nothing.
 use Rattle.std.specs.Prelude.{◌≡◌, refl, List, ◌++◌, ℕ, ◌+◌, ◌*◌, ◌≤◌, ◌<◌, ℤ, length, get_or, take, drop}
-use Rattle.std.proofs.Common.{arith, mul-le-mul, mul-le-mul_right}
+use Rattle.std.proofs.Common.{arith, mul-le-mul}
 use Rattle.sheet.specs.Core.{core_of}
 use Rattle.solver.specs.declared.Given.{Given}
 use Rattle.solver.specs.declared.Standing.{Standing}
@@ -13,7 +13,7 @@ use Rattle.witness.specs.Trace.{Known}
 use Rattle.witness.specs.Written.{Asked, LinkWritten, LoopWritten}
 use Rattle.witness.specs.Walked.{Halted, Ends, far, Begun, Underway}
 use Rattle.witness.specs.Laws.Link.{link_placed}
-use Rattle.witness.specs.Laws.Walked.{few_blocks, blocks, halted_knows, rule_bound, a_in, held_bound, begins, begins_room, walked_start, walked_in, walked_room, walked_less, walked_next, walked_ends}
+use Rattle.witness.specs.Laws.Walked.{few_blocks, blocks, halted_knows, rule_bound, held_bound, begins, begins_room, walked_start, walked_in, walked_room, walked_less, walked_next, walked_ends}
 
 module _ {s : List ℕ} {g : Given} {t : Standing} {x : Broken} (h : Halted s g t x) where
   -- a link's words are few
@@ -22,9 +22,6 @@ module _ {s : List ℕ} {g : Given} {t : Standing} {x : Broken} (h : Halted s g 
   few_words d l = let L = l d.0 d.1 in omega (arith, L.next_is, L.few, blocks h)
 
   -- ---- before the walk
-  pub halted_room : 2 ≤ g.n * (g.n + 2)
-  halted_room = let l : 1 ≤ g.n = omega (arith, a_in h) in omega (arith, mul-le-mul_right (g.n + 2) l)
-
   pub halted_small : g.n * (g.n + 2) ≤ 4224
   halted_small = let l : g.n + 2 ≤ 66 = omega (arith, few_blocks h) in mul-le-mul (few_blocks h) l
 

@@ -1,6 +1,6 @@
 -- From where the solver is stuck, the walk of links closes a loop.
 -- Assumes nothing.
-use Rattle.std.specs.Prelude.{◌≡◌, refl, ◌⊎◌, true, false, ℕ, zero, suc, ◌+◌, ◌*◌, ◌≤◌, ◌<◌, ℤ, neg_ℤ, length, get_or, take}
+use Rattle.std.specs.Prelude.{◌≡◌, refl, ◌⊎◌, ℕ, zero, suc, ◌+◌, ◌*◌, ◌≤◌, ◌<◌, ℤ, neg_ℤ, length, get_or, take}
 use Rattle.std.proofs.Common.{sym, ap, ◌∙◌, subst, inl, inr, arith, mul-le-mul}
 use mathlib.Core.List.{List, [], ◌∷◌, ◌++◌, map}
 use Rattle.std.proofs.Math.Decide.{ℕ_discrete, dec_lt}
@@ -19,7 +19,7 @@ use Rattle.solver.specs.declared.Broken.{Broken}
 use Rattle.solver.specs.declared.Rule.{Rule}
 use Rattle.solver.specs.declared.Rule.TheVariants as R
 use Rattle.solver.specs.System as S
-use Rattle.solver.specs.Walk.{Depth, Rooted, iter, Hit, Met}
+use Rattle.solver.specs.Walk.{Depth, Rooted, iter, Hit}
 use Rattle.solver.specs.Laws.Walk.{iter_in, short, distinct}
 use Rattle.witness.specs.Stands.{Slow}
 use Rattle.witness.specs.Trace.{Tabled, Known}
@@ -46,13 +46,6 @@ far_less n most par R m v h nz = let q = R.ends v h in go q.0 q.1
     go (suc d) p =
         let l = short n par R (suc d) v h p in
         omega (arith, far_depth par most (suc d) v p (omega arith), far_depth par most d (get_or par v 0) p.1 (omega arith))
-
--- ---- where the walk ends, as the test of it says
-pub ends_met : {par : List ℕ} {a b : ℕ} → Met par a b true → Ends par a b a
-ends_met h = record { steps = h.steps; there = h.there; past = h.past; host = λ f. absurd (f refl) }
-
-pub ends_missed : {par : List ℕ} {a b : ℕ} → Met par a b false → Ends par a b 0
-ends_missed h = record { steps = h.steps; there = h.there; past = h.past; host = λ _. refl }
 
 -- ---- a link that is asked for is of kind 2 only where a path is too slow
 asked_slow : (c : Core) (p : ℕ) (r : Rule) (a b : ℕ) (z : ℤ) → Asked c p r a b z → NoneSlow c p → r ≡ R.Path → ⊥

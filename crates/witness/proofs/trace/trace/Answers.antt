@@ -1,12 +1,12 @@
 -- The wires found lead on from b, and complete the best paths to b to best paths.
-use Rattle.std.proofs.Common.{◌-◌, set, length-set, arith}
+use Rattle.std.proofs.Common.{◌-◌, set, length-set, arith, rules}
 use Rattle.std.proofs.lemmas.Slice.{between_to_end}
 use Rattle.sheet.specs.Laws.Rules.{told_false}
 use Rattle.witness.specs.Laws.Trace.{tracing_start, tracing_room, tracing_next, tracing_end}
 use Rattle.witness.proofs.trace.trace.Goals as goal
 
 pub loop-b-init : goal.loop-b-init
-loop-b-init c = tracing_start c.args.sheet.bytes.now _ c.requires.0 _ _ c.requires.1 c.requires.2 c.args.wires.now c.requires.4 c.requires.3 (told_false _ c.bare.result c.bare.ensures c.if-bare.false)
+loop-b-init c = tracing_start c.args.sheet.bytes.now _ c.requires.0 _ _ c.requires.1 c.requires.2 c.args.wires.now (search rules) c.requires.3 (told_false _ c.bare.result c.bare.ensures c.if-bare.false)
 
 pub overflow_sub-at : goal.overflow_sub-at
 overflow_sub-at c = tracing_room c.args.sheet.bytes.now _ c.requires.0 _ _ c.requires.1 c.requires.2 _ _ c.loop-b.wires c.loop-b.invariant
