@@ -32,7 +32,7 @@ pub fn fold_ceilings(wiring: &Wiring, keys: &mut [u32; 4096])
     ensures { Folded wiring.now wiring.now.m keys.old keys.new }
 {
     for j in 0..wiring.m {
-        let at = wiring.from[j] * 64 + wiring.to[j];
+        let at = wiring.from[j] as usize * 64 + wiring.to[j] as usize;
         keys[at] = keys[at].min((2001 - wiring.registers[j]) * 1048576);
     }
 }

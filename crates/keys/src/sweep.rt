@@ -46,9 +46,9 @@ fn step(ordered: &Ordered<'_>, j: usize, versions: &mut Versions, keys: &mut [u3
     ensures { Stepped (shape_of ordered.now) (weights_of ordered.now) j versions.old.rows versions.old.seen keys.old versions.new.rows versions.new.seen keys.new result }
 {
     let wiring = ordered.wiring;
-    let f = wiring.from[j];
+    let f = wiring.from[j] as usize;
     if versions.take_news(f, j) {
-        let t = wiring.to[j];
+        let t = wiring.to[j] as usize;
         let r = try_wire(keys, f, t, wiring.registers[j] * 1048576, ordered.delays[t]);
         versions.rows[t] += r as usize;
         return r;

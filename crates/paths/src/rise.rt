@@ -12,7 +12,7 @@ use crate::wiring::Wiring;
 #[derive(Clone, Copy)]
 struct FreeWires {
     count: usize,
-    list: [usize; 256],
+    list: [u8; 256],
 }
 
 impl FreeWires {
@@ -23,7 +23,7 @@ impl FreeWires {
         let mut count = 0;
         let mut list = [0; 256];
         for j in 0..wiring.m {
-            list[count] = j;
+            list[count] = j as u8;
             if wiring.registers[j] == 0 {
                 count += 1;
             }
@@ -71,9 +71,9 @@ fn sweep(
 {
     let mut changed = 0;
     for i in 0..free.count {
-        let j = free.list[i];
-        let t = wiring.to[j];
-        if lift(wiring.from[j], t, delays[t], heights) {
+        let j = free.list[i] as usize;
+        let t = wiring.to[j] as usize;
+        if lift(wiring.from[j] as usize, t, delays[t], heights) {
             changed += 1;
         }
     }

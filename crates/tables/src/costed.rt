@@ -31,7 +31,7 @@ impl<'a> Costed<'a> {
     {
         let mut costs = [0; 256];
         for j in 0..wiring.m {
-            costs[j] = cost_of(wiring.registers[j], delays[wiring.to[j]]);
+            costs[j] = cost_of(wiring.registers[j], delays[wiring.to[j] as usize]);
         }
         Costed {
             wiring,

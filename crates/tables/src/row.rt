@@ -37,8 +37,8 @@ fn relax(costed: &Costed<'_>, u: usize, start: usize, j: usize, keys: &mut [usiz
     requires whole { Whole costed.now.wiring.now.n keys.old × Row (shape_of costed.now) (weights_of costed.now) u 16384 (row_w costed.now.wiring.now.n keys.old) (row_d costed.now.wiring.now.n keys.old) }
     ensures { Tried (shape_of costed.now) (weights_of costed.now) u j keys.old keys.new result }
 {
-    let t = costed.wiring.to[j];
-    let k = base(start, u, costed.wiring.from[j], keys);
+    let t = costed.wiring.to[j] as usize;
+    let k = base(start, u, costed.wiring.from[j] as usize, keys);
     if k == FAR {
         return false;
     }
