@@ -65,7 +65,9 @@ fn lags_within(
     Ok(0)
 }
 
-// A lag question that the quick way found no lags for.
+// A lag question that the quick way found no lags for. Never inlined: its lists and those of the quick way would stand in one
+// frame, more than the stack that is promised.
+#[inline(never)]
 pub fn refuse(
     sheet: Sound<'_>,
     aim: Aim,
