@@ -36,7 +36,9 @@ fn load_wires(
     }
 }
 
-// All that the solver is given but a path table, in place: no path is slower than the longest period.
+// All that the solver is given but a path table: no path is slower than the longest period. In place and never inlined, so that
+// the lists stand once on the stack.
+#[inline(never)]
 pub fn load(sheet: Sound<'_>, given: &mut Given)
     requires sheet { (given.old.n ≡ sheet.n) × (given.old.m ≡ sheet.m) }
     requires unused { Unused given.old }
