@@ -38,7 +38,8 @@ fn sought(rules: &Rules, aim: Aim) -> Option<Found>
     Some(Found { value, lags })
 }
 
-// The largest lags of a sound sheet at a period, or at the least.
+// The largest lags of a sound sheet at a period, or at the least. Never inlined: its table is off the stack where `refuse` runs.
+#[inline(never)]
 pub fn quick(sheet: Sound<'_>, aim: Aim) -> Option<Found>
     ensures { Quick sheet.entry.bytes.now aim result }
 {

@@ -65,7 +65,9 @@ fn lags_within(
     Ok(0)
 }
 
-// A lag question that the quick way found no lags for.
+// A lag question that the quick way found no lags for. Never inlined: its lists and those of the quick way would stand in one
+// frame, more than the stack that is promised.
+#[inline(never)]
 pub fn refuse(
     sheet: Sound<'_>,
     aim: Aim,
@@ -75,7 +77,20 @@ pub fn refuse(
     requires { (sheet.n ≤ length lags.old) × (sheet.n * (sheet.n + 2) ≤ length words.old) × Hopeless sheet.bytes.now aim }
     ensures { First (last_of sheet.entry.bytes.now aim lags.old words.old) (lags_outcome (said result) lags.new words.new) }
 {
-    let mut given = load(sheet);
+    let mut given = Given {
+        n: sheet.n,
+        m: sheet.m,
+        period: u32::MAX,
+        lower: [0; 64],
+        upper: [0; 64],
+        from: [0; 256],
+        to: [0; 256],
+        wires: [0; 256],
+        ceilings: [0; 256],
+        registers: [0; 4096],
+        delays: [0; 4096],
+    };
+    load(sheet, &mut given);
     let mut standing = Standing::at_limits(&given);
     if let Err(count) = solve(sheet.formed(), &given, &mut standing, words) {
         return Err(Refusal::NoLags(count));

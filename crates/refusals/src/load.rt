@@ -1,55 +1,60 @@
 // What the solver is given, loaded from a sound sheet; and the lags that it found, written out.
 ghost use Rattle.std.specs.Prelude.{◌≡◌, ℕ, ◌<◌, ◌≤◌, length, get_or};
-ghost use Rattle.sheet.specs.Core.{ceiling_of};
+ghost use Rattle.sheet.specs.Core.{from_in, to_in, registers_in, ceiling_of};
 ghost use Rattle.sheet.specs.Filled.{filled};
 ghost use Rattle.sheet.specs.Lag.{lag_of};
-ghost use Rattle.refusals.specs.Load.{wire_bound, ceiling_bound, Loaded};
+ghost use Rattle.refusals.specs.Load.{wire_bound, ceiling_bound, Unused, Loaded};
 
 use paths::sound::Sound;
-use paths::wiring::Wiring;
 use sheet::lag::lag_of;
 use sheet::load::Limits;
+use sheet::opened::Formed;
 use solver::Given;
 
 // The most registers that a wire may end with.
 const CEILING: u32 = 2000;
 
-// The bounds of each wire's rule and of its ceiling's, from the wires' registers.
-fn bound_lists(wiring: &Wiring, wires: &mut [u32; 256], ceilings: &mut [u32; 256])
-    ensures wires { wires.new ≡ filled (λ j. wire_bound (get_or wiring.now.registers j 0)) wiring.now.m wires.old }
-    ensures ceilings { ceilings.new ≡ filled (λ j. ceiling_bound (ceiling_of 0) (get_or wiring.now.registers j 0)) wiring.now.m ceilings.old }
+// The ends of each wire, and the bounds of its rule and of its ceiling's.
+fn load_wires(
+    sheet: Formed<'_>,
+    from: &mut [usize; 256],
+    to: &mut [usize; 256],
+    wires: &mut [u32; 256],
+    ceilings: &mut [u32; 256],
+)
+    ensures from { from.new ≡ filled (from_in sheet.entry.bytes.now) sheet.entry.m from.old }
+    ensures to { to.new ≡ filled (to_in sheet.entry.bytes.now) sheet.entry.m to.old }
+    ensures wires { wires.new ≡ filled (λ j. wire_bound (registers_in sheet.entry.bytes.now j)) sheet.entry.m wires.old }
+    ensures ceilings { ceilings.new ≡ filled (λ j. ceiling_bound (ceiling_of 0) (registers_in sheet.entry.bytes.now j)) sheet.entry.m ceilings.old }
 {
-    for j in 0..wiring.m {
-        let w = wiring.registers[j];
-        wires[j] = w + 32768;
-        ceilings[j] = CEILING + 32768 - w;
+    for j in 0..sheet.m {
+        let wire = sheet.wire(j);
+        from[j] = wire.from;
+        to[j] = wire.to;
+        wires[j] = wire.registers + 32768;
+        ceilings[j] = CEILING + 32768 - wire.registers;
     }
 }
 
-// All that the solver is given but a path table; no path is slower than the longest period.
-pub fn load(sheet: Sound<'_>) -> Given
-    ensures { Loaded sheet.entry.bytes.now result }
+// All that the solver is given but a path table: no path is slower than the longest period. In place and never inlined, so that
+// the lists stand once on the stack.
+#[inline(never)]
+pub fn load(sheet: Sound<'_>, given: &mut Given)
+    requires sheet { (given.old.n ≡ sheet.n) × (given.old.m ≡ sheet.m) }
+    requires unused { Unused given.old }
+    ensures { Loaded sheet.entry.bytes.now given.new }
 {
     let formed = sheet.formed();
-    let wiring = Wiring::of(formed);
     let Limits { lower, upper } = formed.limits();
-    let (from, to) = (wiring.from, wiring.to);
-    let mut wires = [0; 256];
-    let mut ceilings = [0; 256];
-    bound_lists(&wiring, &mut wires, &mut ceilings);
-    Given {
-        n: wiring.n,
-        m: wiring.m,
-        period: u32::MAX,
-        lower,
-        upper,
-        from,
-        to,
-        wires,
-        ceilings,
-        registers: [0; 4096],
-        delays: [0; 4096],
-    }
+    given.lower = lower;
+    given.upper = upper;
+    load_wires(
+        formed,
+        &mut given.from,
+        &mut given.to,
+        &mut given.wires,
+        &mut given.ceilings,
+    );
 }
 
 // The first n lags, from their excess numbers.

@@ -12,10 +12,10 @@ use Rattle.paths.specs.Table.{Entry, best, none}
 use Rattle.paths.specs.Questions.{SoundSheet}
 use Rattle.paths.specs.Laws.Questions.{sound_core}
 use Rattle.solver.specs.declared.Given.{Given}
-use Rattle.solver.specs.System.{Fit}
-use Rattle.solver.specs.Laws.Begun.{blank, blank_quick}
+use Rattle.solver.specs.System.{Fit, Within}
+use Rattle.solver.specs.Laws.Begun.{blank_quick}
 use Rattle.witness.specs.Stands.{Stands}
-use Rattle.refusals.specs.Load.{wire_bound, ceiling_bound, Loaded}
+use Rattle.refusals.specs.Load.{wire_bound, ceiling_bound, Unused, Loaded}
 use Rattle.tables.specs.Laws.Small.{best_few}
 use Rattle.refusals.specs.Laws.Solved.{entry_slow}
 
@@ -73,72 +73,63 @@ entry_is f n l₀ l e h i k = ap (λ (x : List ℕ). get_or x i 0) e ∙ filled_
 pub long_is : (f : ℕ → ℕ) (n k : ℕ) (l₀ l : List ℕ) → l ≡ filled f n l₀ → length l₀ ≡ k → length l ≡ k
 long_is f n k l₀ l e h = ap length e ∙ length_filled f n l₀ ∙ h
 
--- ---- the lists as they are loaded, all alike before
-zeros : (k : ℕ) → length {A = ℕ} (replicate k 0) ≡ k
-zeros k = length-replicate {A = ℕ} k 0
-
+-- ---- the lists, before (g) and after they are loaded
 still : length {A = ℕ} (replicate 64 32768) ≡ 64
 still = length-replicate {A = ℕ} 64 32768
 
-module _ (s : List ℕ) (S : SoundSheet s) (n m : ℕ) (n_is : n ≡ blocks_in s) (m_is : m ≡ wires_in s) where
-  few_blocks : n ≤ 64
+module _ (s : List ℕ) (S : SoundSheet s) (g : Given) (n_is : g.n ≡ blocks_in s) (m_is : g.m ≡ wires_in s) (R : Unused g) where
+  few_blocks : g.n ≤ 64
   few_blocks = omega (arith, S.formed.framed.few_blocks)
 
-  pub few_wires : m ≤ 256
+  few_wires : g.m ≤ 256
   few_wires = omega (arith, S.formed.framed.few_wires)
 
-  -- the registers of the wires, in a list of their own
-  module _ (own : List ℕ) (own_is : own ≡ filled (registers_in s) m (replicate 256 0)) where
-    pub own_long : length own ≡ 256
-    own_long = long_is (registers_in s) m 256 _ own own_is (zeros 256)
+  few : (j : ℕ) → j < wires_in s → registers_in s j ≤ 2000
+  few j h = (S.formed.wire j h).few
 
-    own_at : (j : ℕ) → j < m → get_or own j 0 ≡ registers_in s j
-    own_at = entry_is (registers_in s) m _ own own_is (omega (arith, few_wires, zeros 256))
+  module _ {lower upper from to wires ceilings : List ℕ}
+      (lower_is : lower ≡ filled (λ b. excess (lower_in s b)) g.n (replicate 64 32768))
+      (upper_is : upper ≡ filled (λ b. excess (upper_in s b)) g.n (replicate 64 32768))
+      (from_is : from ≡ filled (from_in s) g.m g.from)
+      (to_is : to ≡ filled (to_in s) g.m g.to)
+      (wires_are : wires ≡ filled (λ j. wire_bound (registers_in s j)) g.m g.wires)
+      (ceilings_are : ceilings ≡ filled (λ j. ceiling_bound (ceiling_of 0) (registers_in s j)) g.m g.ceilings) where
+    abbrev held : Given
+    held = record g { lower = lower; upper = upper; from = from; to = to; wires = wires; ceilings = ceilings }
 
-    pub own_few : (j : ℕ) → j < m → get_or own j 0 ≤ 2000
-    own_few j h = omega (arith, own_at j h, (S.formed.wire j (omega arith)).few)
+    quick : Within g.delays g.period
+    quick = rw R.delays_are (blank_quick g.period)
 
-    module _ {lower upper from to wires ceilings : List ℕ}
-        (limits : (lower ≡ filled (λ b. excess (lower_in s b)) n (replicate 64 32768)) × (upper ≡ filled (λ b. excess (upper_in s b)) n (replicate 64 32768)))
-        (from_is : from ≡ filled (from_in s) m (replicate 256 0)) (to_is : to ≡ filled (to_in s) m (replicate 256 0))
-        (bounds : (wires ≡ filled (λ j. wire_bound (get_or own j 0)) m (replicate 256 0)) × (ceilings ≡ filled (λ j. ceiling_bound (ceiling_of 0) (get_or own j 0)) m (replicate 256 0))) where
-      abbrev held : Given
-      held = record { n = n; m = m; period = 4294967295; lower = lower; upper = upper; from = from; to = to; wires = wires; ceilings = ceilings; registers = blank; delays = blank }
+    loaded_stands : Stands s held
+    loaded_stands = record {
+      sound = S;
+      n_is = n_is;
+      m_is = m_is;
+      lower_is = λ b h. entry_is _ g.n _ lower lower_is (omega (arith, few_blocks, still)) b (omega arith);
+      upper_is = λ b h. entry_is _ g.n _ upper upper_is (omega (arith, few_blocks, still)) b (omega arith);
+      from_is = λ j h. entry_is _ g.m _ from from_is (omega (arith, few_wires, R.from_long)) j (omega arith);
+      to_is = λ j h. entry_is _ g.m _ to to_is (omega (arith, few_wires, R.to_long)) j (omega arith);
+      wires_is = λ j h. entry_is _ g.m _ wires wires_are (omega (arith, few_wires, R.wires_long)) j (omega arith);
+      ceilings_is = λ j h. omega (arith, entry_is _ g.m _ ceilings ceilings_are (omega (arith, few_wires, R.ceilings_long)) j (omega arith), few j h);
+      table = λ x. absurd (omega (arith, x.slow, quick.all (x.a * g.n + x.b)));
+    }
 
-      loaded_stands : Stands s held
-      loaded_stands = record {
-        sound = S;
-        n_is = n_is;
-        m_is = m_is;
-        lower_is = λ b h. entry_is _ n _ lower limits.0 (omega (arith, few_blocks, still)) b (omega arith);
-        upper_is = λ b h. entry_is _ n _ upper limits.1 (omega (arith, few_blocks, still)) b (omega arith);
-        from_is = λ j h. entry_is _ m _ from from_is (omega (arith, few_wires, zeros 256)) j (omega arith);
-        to_is = λ j h. entry_is _ m _ to to_is (omega (arith, few_wires, zeros 256)) j (omega arith);
-        wires_is = λ j h.
-            let k : j < m = omega arith in
-            omega (arith, entry_is _ m _ wires bounds.0 (omega (arith, few_wires, zeros 256)) j k, own_at j k);
-        ceilings_is = λ j h.
-            let k : j < m = omega arith in
-            omega (arith, entry_is _ m _ ceilings bounds.1 (omega (arith, few_wires, zeros 256)) j k, own_at j k, own_few j k);
-        table = λ x. absurd (omega (arith, x.slow, (blank_quick 4294967295).all (x.a * n + x.b)));
-      }
+    loaded_long : Long held
+    loaded_long = record {
+      lower_long = long_is _ g.n 64 _ lower lower_is still;
+      upper_long = long_is _ g.n 64 _ upper upper_is still;
+      from_long = long_is _ g.m 256 _ from from_is R.from_long;
+      to_long = long_is _ g.m 256 _ to to_is R.to_long;
+      wires_long = long_is _ g.m 256 _ wires wires_are R.wires_long;
+      ceilings_long = long_is _ g.m 256 _ ceilings ceilings_are R.ceilings_long;
+      registers_long = ap length R.registers_are ∙ length-replicate {A = ℕ} 4096 0;
+      delays_long = ap length R.delays_are ∙ length-replicate {A = ℕ} 4096 0;
+    }
 
-      loaded_long : Long held
-      loaded_long = record {
-        lower_long = long_is _ n 64 _ lower limits.0 still;
-        upper_long = long_is _ n 64 _ upper limits.1 still;
-        from_long = long_is _ m 256 _ from from_is (zeros 256);
-        to_long = long_is _ m 256 _ to to_is (zeros 256);
-        wires_long = long_is _ m 256 _ wires bounds.0 (zeros 256);
-        ceilings_long = long_is _ m 256 _ ceilings bounds.1 (zeros 256);
-        registers_long = zeros 4096;
-        delays_long = zeros 4096;
-      }
-
-      pub loaded : Loaded s held
-      loaded = record {
-        held = record { stands = loaded_stands; fit = stands_fits loaded_stands loaded_long };
-        period_is = refl;
-        registers_are = refl;
-        delays_are = refl;
-      }
+    pub loaded : Loaded s held
+    loaded = record {
+      held = record { stands = loaded_stands; fit = stands_fits loaded_stands loaded_long };
+      period_is = R.period_is;
+      registers_are = R.registers_are;
+      delays_are = R.delays_are;
+    }

@@ -1,11 +1,13 @@
--- The lists of a wiring and the limits are those that the solver is given.
-use Rattle.std.proofs.Common.{◌≡◌, ◌∙◌, sym}
+-- The limits, and the lists of wires that were filled, are those of the sheet.
+use Rattle.std.proofs.Common.{◌∙◌, sym}
 use Rattle.refusals.specs.Laws.Load.{loaded}
 use Rattle.refusals.proofs.load.load.Goals as goal
 
 pub returns : goal.returns
 returns c =
+    let s = c.args.sheet in
+    let R = c.requires.sheet in
     let f = c.formed-formed.ensures in
-    let W = rw f.0 at c.of-wiring.ensures in
-    let e : c.formed-formed.result.n ≡ c.of-wiring.result.n = f.1 ∙ c.args.sheet.n_is ∙ sym W.n_is in
-    loaded c.args.sheet.bytes.now c.args.sheet.sound _ _ W.n_is W.m_is _ W.registers_is (rw (f.0, e) at c.limits.ensures.lower, rw (f.0, e) at c.limits.ensures.upper) W.from_is W.to_is (c.bound_lists.ensures.wires, c.bound_lists.ensures.ceilings)
+    let L = rw (f.0, f.1 ∙ sym R.0) at c.limits.ensures in
+    let W = rw (f.0, f.2 ∙ sym R.1) at c.load_wires.ensures in
+    loaded s.bytes.now s.sound c.args.given.now (R.0 ∙ s.n_is) (R.1 ∙ s.m_is) c.requires.unused L.lower L.upper W.from W.to W.wires W.ceilings
