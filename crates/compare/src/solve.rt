@@ -33,8 +33,8 @@ fn accepted(sheet: &[u8], period: u32, words: &[u16]) -> bool {
 }
 
 // With 11 at the period asked for. With 10 at the least and the largest: at the largest no path is slow enough.
-fn proved(sheet: &[u8], number: u32, period: u32, words: &[u16]) -> bool {
-    if number == 11 {
+fn proved(sheet: &[u8], answer: Answer, period: u32, words: &[u16]) -> bool {
+    if answer.number == 11 {
         accepted(sheet, period, words)
     } else {
         accepted(sheet, 0, words) && accepted(sheet, u32::MAX, words)
@@ -46,7 +46,7 @@ fn loop_lines(out: &mut Out, asked: &Record, period: u32, answer: Answer, loan: 
     let count = answer.value as usize;
     out.short_head(asked.question as u32, answer);
     let yes = match loan.words.get(..count) {
-        Some(words) => proved(asked.sheet, answer.number, period, words),
+        Some(words) => proved(asked.sheet, answer, period, words),
         None => false,
     };
     out.text(if yes { b"loop yes\n" } else { b"loop no\n" });

@@ -8,7 +8,7 @@ ghost use Rattle.paths.specs.Wired.{wired, weights};
 
 use crate::wiring::Wiring;
 
-// The numbers of the wires without a register stand at the start of the list.
+// The numbers of the wires without a register stand at the start of the list. A list with its count, since there is no heap.
 #[derive(Clone, Copy)]
 struct FreeWires {
     count: usize,

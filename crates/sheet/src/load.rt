@@ -10,6 +10,7 @@ use crate::opened::Formed;
 use crate::wire::{Wire, read_wire};
 
 // Both lag limits of each block, as excess numbers; the range of a block that the sheet does not have is lag 0 alone.
+// Two lists and not one of pairs: the limits of all blocks on one side become vectors.
 #[derive(Clone, Copy)]
 pub struct Limits {
     pub lower: [u32; 64],

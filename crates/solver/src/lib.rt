@@ -37,6 +37,7 @@ pub struct Given {
 }
 
 // Where the solver stands: each block's lag, as its excess number, and the rule that holds it with the block that this leads to.
+// Lists side by side: what is proved of walks speaks of `next` by itself (`Rooted`, `iter`).
 #[derive(Drop)]
 pub struct Standing {
     pub lags: [u32; 64],
