@@ -7,15 +7,17 @@ use Rattle.std.specs.Int.{w16}
 use Rattle.sheet.specs.Lag.{excess}
 use Rattle.sheet.specs.Bytes.{u16_at}
 use Rattle.sheet.specs.Core.{wire_at, blocks_in, wires_in, delay_in, lower_in, upper_in, from_in, to_in, registers_in, spare_in}
-use Rattle.sheet.specs.Rules.{First, None, FirstOf, answer}
+use Rattle.sheet.specs.Rules.{First, None, FirstOf, answer, refusal_answer}
 use Rattle.sheet.specs.Sheet.{LagLimits, BlockRule, WireRule, BlockGood, WireGood, frame_rules, block_rules, wire_rules, Offsets, Framed}
-use Rattle.sheet.specs.Reads.{ExcessIs, BlockNumbers, BlockGiven, BlockIs, WireIs, WireGiven}
+use Rattle.sheet.specs.Reads.{ExcessIs, BlockNumbers, BlockGiven, BlockIs, WireIs, WireGiven, FrameGiven}
 use Rattle.sheet.specs.Laws.Integer.{up, down, le_parts, parts_le, parts_eq, minus}
 use Rattle.sheet.specs.Laws.Lag.{excess_parts, mag_bits, excess_bits}
 use Rattle.sheet.specs.Laws.Rules.{place_found, search_stops}
 use Rattle.sheet.specs.declared.block.Block.{Block}
 use Rattle.sheet.specs.declared.wire.Wire.{Wire}
 use Rattle.sheet.specs.declared.entry.BadEntry.{BadEntry}
+use Rattle.sheet.specs.declared.opened.Opened.{Opened}
+use Rattle.sheet.specs.declared.refusal.Refusal.{Refusal}
 
 -- ---- the block rule on excess numbers
 pub limits_fit : (z : ℤ) → LagLimits z → mag z < 32768
@@ -108,6 +110,12 @@ module _ (s : List ℕ) (i : ℕ) where
 
   pub wire_refused : (r : Result Wire BadEntry) (bad : BadEntry) → WireGiven s i r → r ≡ Err bad → WireGood s i → ⊥
   wire_refused r bad h e = (subst (WireGiven s i) e h).1
+
+pub frame_read : (s : List ℕ) (r : Result Opened Refusal) (sheet : Opened) → FrameGiven s r → r ≡ Ok sheet → (sheet.n ≡ blocks_in s) × (sheet.m ≡ wires_in s) × Framed s
+frame_read s r sheet h e = let q = subst (FrameGiven s) e h in (q.1, q.2, q.3)
+
+pub frame_refused : (s : List ℕ) (r : Result Opened Refusal) (x : Refusal) → FrameGiven s r → r ≡ Err x → First (frame_rules s) (refusal_answer x)
+frame_refused s r x h e = subst (FrameGiven s) e h
 
 -- ---- the frame's refusals, one by one
 module _ (s : List ℕ) where
