@@ -17,8 +17,8 @@ const CEILING: u32 = 2000;
 // The ends of each wire, and the bounds of its rule and of its ceiling's.
 fn load_wires(
     sheet: Formed<'_>,
-    from: &mut [u8; 256],
-    to: &mut [u8; 256],
+    from: &mut [usize; 256],
+    to: &mut [usize; 256],
     wires: &mut [u32; 256],
     ceilings: &mut [u32; 256],
 )
@@ -29,8 +29,8 @@ fn load_wires(
 {
     for j in 0..sheet.m {
         let wire = sheet.wire(j);
-        from[j] = wire.from as u8;
-        to[j] = wire.to as u8;
+        from[j] = wire.from;
+        to[j] = wire.to;
         wires[j] = wire.registers + 32768;
         ceilings[j] = CEILING + 32768 - wire.registers;
     }

@@ -10,8 +10,8 @@ impl Standing {
     pub(crate) fn sweep_wires<F: Fn(usize) -> Rule>(
         &mut self,
         given: &Given,
-        from: &[u8; 256],
-        to: &[u8; 256],
+        from: &[usize; 256],
+        to: &[usize; 256],
         bounds: &[u32; 256],
         rule: F,
     ) -> Result<bool, Broken>
@@ -21,7 +21,7 @@ impl Standing {
     {
         let mut lowered = false;
         for j in 0..given.m {
-            lowered |= self.relax(given, rule(j), from[j] as usize, to[j] as usize, bounds[j])?;
+            lowered |= self.relax(given, rule(j), from[j], to[j], bounds[j])?;
         }
         Ok(lowered)
     }
