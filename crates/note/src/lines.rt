@@ -2,8 +2,8 @@
 ghost use Rattle.std.specs.Prelude.{◌≡◌, ◌+◌, ◌*◌, ◌<◌, ◌≤◌, length};
 ghost use Rattle.sheet.specs.Core.{blocks_in};
 
-use records::out::Out;
-use sheet::wire::read_wire;
+use sheet::wire::{Wire, read_wire};
+use std::fmt;
 
 // What a note tells of a sheet: the sheet it was moved to, each block's lag, how many wires it has, and both periods.
 #[derive(Drop)]
@@ -20,50 +20,37 @@ pub struct Note<'a> {
 }
 
 impl Note<'_> {
-    fn head_lines(&self, out: &mut Out) {
-        out.text(b"blocks");
-        out.next(self.lags.len() as u32);
-        out.list(b" wires", &[self.wires as u32]);
-        out.list(b"period", &[self.standing, self.best]);
-    }
-
-    fn lag_lines(&self, out: &mut Out) {
-        for (block, lag) in self.lags.iter().enumerate() {
-            out.text(b"lag");
-            out.next(block as u32);
-            out.rest(&[*lag]);
-        }
-    }
-
     // The sheet is sound by the answers before and the moved sheet by the move's promise, so that neither wire is refused.
-    fn wire_line(&self, out: &mut Out, j: usize)
+    fn wire_line<W: fmt::Write>(&self, f: &mut fmt::Formatter<W>, j: usize) -> fmt::Result
         requires { j < self.now.wires }
     {
         let n = self.lags.len();
         let Ok(wire) = read_wire(self.sheet, n, j) else {
-            return;
+            return Ok(());
         };
         let Ok(moved) = read_wire(self.moved, n, j) else {
-            return;
+            return Ok(());
         };
-        out.list(
-            b"wire",
-            &[
-                j as u32,
-                wire.from as u32,
-                wire.to as u32,
-                wire.registers,
-                moved.registers,
-            ],
-        );
+        let Wire {
+            from,
+            to,
+            registers,
+        } = wire;
+        writeln!(f, "wire {j} {from} {to} {registers} {}", moved.registers)
     }
+}
 
-    // All lines: the counts, the periods, each block's lag and each wire.
-    pub fn write(&self, out: &mut Out) {
-        self.head_lines(out);
-        self.lag_lines(out);
-        for j in 0..self.wires {
-            self.wire_line(out, j);
+// All lines: the counts, the periods, each block's lag and each wire.
+impl fmt::Display for Note<'_> {
+    fn fmt<W: fmt::Write>(&self, f: &mut fmt::Formatter<W>) -> fmt::Result {
+        writeln!(f, "blocks {} wires {}", self.lags.len(), self.wires)?;
+        writeln!(f, "period {} {}", self.standing, self.best)?;
+        for (block, lag) in self.lags.iter().enumerate() {
+            writeln!(f, "lag {block} {lag}")?;
         }
+        for j in 0..self.wires {
+            self.wire_line(f, j)?;
+        }
+        Ok(())
     }
 }

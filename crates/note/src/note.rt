@@ -22,7 +22,7 @@ fn lines(out: &mut Out, sheet: &[u8]) -> Result<(), Answer> {
         standing,
         best,
     };
-    note.write(out);
+    out.show(&note);
     Ok(())
 }
 

@@ -2,7 +2,7 @@
 ghost use Rattle.std.specs.Prelude.{◌≤◌};
 
 use sheet::answer::Answer;
-use sheet::lag::excess_of;
+use std::fmt::{self, Display, Write};
 
 // The text that is not yet written. It can't be dropped, so that a program that forgets `finish` is refused.
 pub struct Out {
@@ -37,41 +37,39 @@ impl Out {
         }
     }
 
-    // A number by its decimal digits.
-    pub fn number(&mut self, x: u32) {
-        let mut digits = [0u8; 20];
-        let k = io::decimal(x as u64, &mut digits);
-        self.text(&digits[..k]);
+    // A number by its digits, a note by its lines.
+    pub fn show<T: Display>(&mut self, x: &T) {
+        let _ = write!(self, "{x}");
     }
 
     // A space and the entry: every entry but a line's first.
-    pub fn next<T: Entry>(&mut self, x: T) {
+    pub fn next<T: Display>(&mut self, x: &T) {
         self.byte(b' ');
-        x.write(self);
+        self.show(x);
     }
 
     // A space and the entry for each, and the end of the line.
-    pub fn rest<T: Entry>(&mut self, entries: &[T]) {
+    pub fn rest<T: Display>(&mut self, entries: &[T]) {
         for x in entries {
-            self.next(*x);
+            self.next(x);
         }
         self.byte(b'\n');
     }
 
     // A line with a name and the entries of a list.
-    pub fn list<T: Entry>(&mut self, name: &[u8], entries: &[T]) {
+    pub fn list<T: Display>(&mut self, name: &[u8], entries: &[T]) {
         self.text(name);
         self.rest(entries);
     }
 
     // The line that an answer begins with, all of it or without its value.
     pub fn head(&mut self, code: u32, answer: Answer) {
-        self.number(code);
+        self.show(&code);
         self.rest(&[answer.number, answer.place, answer.value]);
     }
 
     pub fn short_head(&mut self, code: u32, answer: Answer) {
-        self.number(code);
+        self.show(&code);
         self.rest(&[answer.number, answer.place]);
     }
 
@@ -92,32 +90,9 @@ impl Out {
     }
 }
 
-// What a line can hold after a space: the entry by its digits, a lag with its sign.
-pub trait Entry: Copy {
-    fn write(self, out: &mut Out);
-}
-
-impl Entry for u32 {
-    fn write(self, out: &mut Out) {
-        out.number(self);
-    }
-}
-
-impl Entry for u8 {
-    fn write(self, out: &mut Out) {
-        out.number(self as u32);
-    }
-}
-
-// A lag, from its excess number, which has no sign.
-impl Entry for i16 {
-    fn write(self, out: &mut Out) {
-        let e = excess_of(self);
-        if e < 32768 {
-            out.byte(b'-');
-            out.number(32768 - e);
-        } else {
-            out.number(e - 32768);
-        }
+impl fmt::Write for Out {
+    fn write_str(&mut self, text: &str) -> fmt::Result {
+        self.text(text.as_bytes());
+        Ok(())
     }
 }
