@@ -5,8 +5,7 @@ ghost use Rattle.sheet.specs.Core.{blocks_in};
 ghost use Rattle.records.specs.Given.{GivenBy};
 
 use crate::lent::LONGEST;
-use sheet::bytes::{excess_at, u16_at};
-use sheet::lag::lag_of;
+use sheet::bytes::u16_at;
 
 // A number that a record gives in two bytes.
 pub trait TwoBytes: Copy + Default {
@@ -21,7 +20,7 @@ impl TwoBytes for u16 {
     ghost at = { u16_at };
 
     fn read(bytes: &[u8], place: usize) -> u16 {
-        u16_at(bytes, place) as u16
+        u16::from_le_bytes([bytes[place], bytes[place + 1]])
     }
 }
 
@@ -29,7 +28,7 @@ impl TwoBytes for i16 {
     ghost at = { i16_at };
 
     fn read(bytes: &[u8], place: usize) -> i16 {
-        lag_of(excess_at(bytes, place))
+        i16::from_le_bytes([bytes[place], bytes[place + 1]])
     }
 }
 

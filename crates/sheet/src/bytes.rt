@@ -3,6 +3,8 @@ ghost use Rattle.std.specs.Prelude.{◌≡◌, ◌+◌, ◌%◌, ◌<◌, length
 ghost use Rattle.sheet.specs.Bytes.{u16_at, u32_at, i16_at, put16};
 ghost use Rattle.sheet.specs.Reads.{ExcessIs};
 
+use crate::lag::{excess_of, lag_of};
+
 pub fn u16_at(s: &[u8], at: usize) -> u32
     requires { at + 1 < length s.now }
     ensures { (result ≡ u16_at s.now at) × (result < 65536) }
@@ -22,7 +24,7 @@ pub fn excess_at(s: &[u8], at: usize) -> u32
     requires { at + 1 < length s.now }
     ensures { ExcessIs (i16_at s.now at) result }
 {
-    (u16_at(s, at) + 32768) % 65536
+    excess_of(i16::from_le_bytes([s[at], s[at + 1]]))
 }
 
 pub fn put_u16(s: &mut [u8], at: usize, x: u32)
@@ -39,5 +41,7 @@ pub fn put_lag(s: &mut [u8], at: usize, e: u32)
     requires { (at + 1 < length s.old) × (e < 65536) }
     ensures { s.new ≡ put16 s.old at ((e + 32768) % 65536) }
 {
-    put_u16(s, at, (e + 32768) % 65536);
+    let [low, high] = lag_of(e).to_le_bytes();
+    s[at] = low;
+    s[at + 1] = high;
 }

@@ -8,6 +8,8 @@ use crate::opened::{Formed, Opened};
 use crate::refusal::Refusal;
 use crate::wire::read_wire;
 
+// This loop and the next stay two, as do those of refusals 8 and 9: one function of both would take two closures, the test and
+// the refusal, whose clauses are longer than a loop.
 fn check_blocks(sheet: Opened<'_>) -> Result<(), Refusal>
     ensures { Staged (block_rules sheet.entry.bytes.now) result }
 {

@@ -1,4 +1,5 @@
 // A sheet at the stages of a question: what was tested stands in its type.
+// The same plain fields at each stage, and not one stage inside the next: a clause reads `sheet.bytes`, and no stage by its name.
 ghost use Rattle.std.specs.Prelude.{◌≡◌};
 ghost use Rattle.sheet.specs.Core.{blocks_in, wires_in};
 ghost use Rattle.sheet.specs.Sheet.{Framed, FormedSheet};
