@@ -29,10 +29,8 @@ pub struct Asked<'a> {
 // The same where the lags are permitted.
 #[derive(Clone, Copy)]
 pub struct Move<'a> {
-    pub sheet: Formed<'a>,
-    pub lags: &'a [i16],
-    pub ghost enough: { sheet.n ≤ length lags.now },
-    pub ghost permitted: { Permitted (core_of sheet.bytes.now) (lags_in lags.now) },
+    pub asked: Asked<'a>,
+    pub ghost permitted: { Permitted (core_of asked.sheet.bytes.now) (lags_in asked.lags.now) },
 }
 
 fn in_range(asked: Asked<'_>, b: usize) -> bool
@@ -79,12 +77,9 @@ fn check_wires(asked: Asked<'_>) -> Result<(), Refusal>
 // Refusals 8 and 9 of a formed sheet.
 pub fn check_lags(asked: Asked<'_>) -> Result<Move<'_>, Refusal>
     ensures staged { Staged (lag_rules asked.entry.sheet.bytes.now (lags_in asked.entry.lags.now)) result }
-    ensures same { IfOk result (λ m. (m.sheet.bytes.now ≡ asked.entry.sheet.bytes.now) × (m.lags.now ≡ asked.entry.lags.now)) }
+    ensures same { IfOk result (λ m. (m.asked.sheet.bytes.now ≡ asked.entry.sheet.bytes.now) × (m.asked.lags.now ≡ asked.entry.lags.now)) }
 {
     check_ranges(asked)?;
     check_wires(asked)?;
-    Ok(Move {
-        sheet: asked.sheet,
-        lags: asked.lags,
-    })
+    Ok(Move { asked })
 }

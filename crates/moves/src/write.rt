@@ -27,41 +27,45 @@ fn limits_from(which: Limit) -> usize
 impl<'a> Move<'a> {
     // One limit of each block, less its lag.
     fn put_limits(self, which: Limit, moved: &mut [u8])
-        requires { length self.sheet.bytes.now ≤ length moved.old }
-        ensures { moved.new ≡ puts (limits_from which) (limit_bits self.entry.sheet.bytes.now (lags_in self.entry.lags.now) which) self.entry.sheet.n moved.old }
+        requires { length self.asked.sheet.bytes.now ≤ length moved.old }
+        ensures { moved.new ≡ puts (limits_from which) (limit_bits self.entry.asked.sheet.bytes.now (lags_in self.entry.asked.lags.now) which) self.entry.asked.sheet.n moved.old }
     {
         let base = limits_from(which);
-        for b in 0..self.sheet.n {
-            let limit = self.sheet.block(b).limit(which);
-            put_lag(moved, base + 8 * b, limit + 32768 - lag_at(self.lags, b));
+        for b in 0..self.asked.sheet.n {
+            let limit = self.asked.sheet.block(b).limit(which);
+            put_lag(
+                moved,
+                base + 8 * b,
+                limit + 32768 - lag_at(self.asked.lags, b),
+            );
         }
     }
 
     // The registers of wire j once moved.
     fn registers(self, j: usize) -> u32
-        requires { j < self.sheet.m }
-        ensures { RegistersMoved self.entry.sheet.bytes.now (lags_in self.entry.lags.now) j result }
+        requires { j < self.asked.sheet.m }
+        ensures { RegistersMoved self.entry.asked.sheet.bytes.now (lags_in self.entry.asked.lags.now) j result }
     {
-        let wire = self.sheet.wire(j);
-        wire.registers + lag_at(self.lags, wire.to) - lag_at(self.lags, wire.from)
+        let wire = self.asked.sheet.wire(j);
+        wire.registers + lag_at(self.asked.lags, wire.to) - lag_at(self.asked.lags, wire.from)
     }
 
     fn put_registers(self, moved: &mut [u8])
-        requires { length self.sheet.bytes.now ≤ length moved.old }
-        ensures { moved.new ≡ puts (registers_from self.entry.sheet.n) (moved_registers self.entry.sheet.bytes.now (lags_in self.entry.lags.now)) self.entry.sheet.m moved.old }
+        requires { length self.asked.sheet.bytes.now ≤ length moved.old }
+        ensures { moved.new ≡ puts (registers_from self.entry.asked.sheet.n) (moved_registers self.entry.asked.sheet.bytes.now (lags_in self.entry.asked.lags.now)) self.entry.asked.sheet.m moved.old }
     {
-        let base = 20 + 8 * self.sheet.n;
-        for j in 0..self.sheet.m {
+        let base = 20 + 8 * self.asked.sheet.n;
+        for j in 0..self.asked.sheet.m {
             put_u16(moved, base + 8 * j, self.registers(j));
         }
     }
 
     // The moved sheet over the first bytes of a lent list.
     pub fn write(self, moved: &mut [u8])
-        requires { length self.sheet.bytes.now ≤ length moved.old }
-        ensures { moved.new ≡ written self.entry.sheet.bytes.now (lags_in self.entry.lags.now) moved.old }
+        requires { length self.asked.sheet.bytes.now ≤ length moved.old }
+        ensures { moved.new ≡ written self.entry.asked.sheet.bytes.now (lags_in self.entry.asked.lags.now) moved.old }
     {
-        copy_sheet(self.sheet.bytes, moved);
+        copy_sheet(self.asked.sheet.bytes, moved);
         self.put_limits(Limit::Lower, moved);
         self.put_limits(Limit::Upper, moved);
         self.put_registers(moved);

@@ -13,8 +13,8 @@ returns-in_err-check_wires-clause-staged c =
     let r = lags_in c.args.asked.lags.now in
     rw (p.1, p.2) (first_right (range_rules s r) (fit_rules s r) _ c.in_ok-check_ranges.ensures c.in_err-check_wires.ensures)
 
-pub invariant_of-result-clause-permitted : goal.invariant_of-result-clause-permitted
-invariant_of-result-clause-permitted c =
+pub invariant_of-result : goal.invariant_of-result
+invariant_of-result c =
     let s = c.args.asked.sheet.bytes.now in
     let r = lags_in c.args.asked.lags.now in
-    none_permitted s r (none_both (range_rules s r) (fit_rules s r) c.in_ok-check_ranges.ensures c.in_ok-check_wires.ensures)
+    record { permitted = none_permitted s r (none_both (range_rules s r) (fit_rules s r) c.in_ok-check_ranges.ensures c.in_ok-check_wires.ensures) }

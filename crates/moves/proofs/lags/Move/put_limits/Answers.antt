@@ -7,4 +7,4 @@ pub loop-b-init : goal.loop-b-init
 loop-b-init c = sym (puts_none _ _ _)
 
 pub loop-b-preserved : goal.loop-b-preserved
-loop-b-preserved c = puts_turn _ _ _ _ _ _ _ _ c.loop-b.invariant (ap (λ (k : ℕ). k + 8 * c.loop-b.b) c.limits_from-base.ensures.0) (bits_is _ _ _ _ (limit_is c.args.self.sheet.bytes.now c.args.self.sheet.formed c.loop-b.b c.block.result c.block.ensures c.args.which _ c.limit-limit.ensures) c.lag_at.ensures.is) c.put_lag.ensures
+loop-b-preserved c = puts_turn _ _ _ _ _ _ _ _ c.loop-b.invariant (ap (λ (k : ℕ). k + 8 * c.loop-b.b) c.limits_from-base.ensures.0) (bits_is _ _ _ _ (limit_is c.args.self.asked.sheet.bytes.now c.args.self.asked.sheet.formed c.loop-b.b c.block.result c.block.ensures c.args.which _ c.limit-limit.ensures) c.lag_at.ensures.is) c.put_lag.ensures
