@@ -75,6 +75,7 @@ fn lags_by<F: FnOnce(&mut [i16], &mut [u16]) -> Answer>(
 {
     let mut loan = Loan::new();
     let answer = question(&mut loan.lags[..asked.a], &mut loan.words[..asked.b]);
+    // Numbers as C has them: what is asked here are the public questions.
     if matches!(answer.number, 10 | 11) {
         loop_lines(out, asked, period, answer, &loan);
     } else {

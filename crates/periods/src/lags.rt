@@ -13,7 +13,8 @@ use refusals::{Aim, refuse};
 use sheet::frame::read_frame;
 use sheet::refusal::Refusal;
 
-// A lag question on a sound sheet.
+// A lag question on a sound sheet. Lags and words stay two lists, each with its room in a clause, here and in `refuse`: they are
+// lent on one by one, so that a struct of both would be taken apart again.
 fn sound_lags(
     sheet: Sound<'_>,
     aim: Aim,

@@ -4,7 +4,8 @@ ghost use Rattle.sheet.specs.Rules.{refusal_answer, said};
 
 use crate::refusal::Refusal;
 
-// 01: "Each answer has a number, a place and, where the question has one, a value."
+// 01: "Each answer has a number, a place and, where the question has one, a value." Numbers, since C has them so; inside, a
+// refusal is a `Refusal`.
 #[derive(Clone, Copy, Debug, PartialEq, Eq)]
 pub struct Answer {
     pub number: u32,

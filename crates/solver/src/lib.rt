@@ -37,7 +37,8 @@ pub struct Given {
 }
 
 // Where the solver stands: each block's lag, as its excess number, and the rule that holds it with the block that this leads to.
-// Lists side by side: what is proved of walks speaks of `next` by itself (`Rooted`, `iter`).
+// Lists side by side: what is proved of walks speaks of `next` by itself (`Rooted`, `iter`). That it stands well (`State`) is a
+// clause and no ghost field: it is said of a `Given` too, which `refuse` changes between two runs from the same standing.
 #[derive(Drop)]
 pub struct Standing {
     pub lags: [u32; 64],
