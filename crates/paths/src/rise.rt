@@ -57,27 +57,25 @@ fn lift(f: usize, t: usize, d: u32, heights: &mut [u32; 64]) -> bool
     old < x
 }
 
-// One sweep over the listed wires: how many blocks rose. `done` counts the sweeps before it and bounds the heights.
+// One sweep over the listed wires: whether a block rose. `done` counts the sweeps before it and bounds the heights.
 fn sweep(
     wiring: &Wiring,
     delays: &[u32; 64],
     free: &FreeWires,
     done: usize,
     heights: &mut [u32; 64],
-) -> usize
+) -> bool
     requires wires { Delays wiring.now.n delays.now × Listed (weights wiring.now) wiring.now.m free.now.count free.now.list × (done ≤ 64) }
     requires heights { Heights (wired wiring.now delays.now) (weights wiring.now) (256 * done) heights.old }
     ensures { Swept (wired wiring.now delays.now) (weights wiring.now) (256 * (done + 1)) heights.old heights.new result }
 {
-    let mut changed = 0;
+    let mut rose = false;
     for i in 0..free.count {
         let j = free.list[i] as usize;
         let t = wiring.to[j] as usize;
-        if lift(wiring.from[j] as usize, t, delays[t], heights) {
-            changed += 1;
-        }
+        rose |= lift(wiring.from[j] as usize, t, delays[t], heights);
     }
-    changed
+    rose
 }
 
 // The largest of the first n heights.
@@ -103,7 +101,7 @@ pub fn rise(wiring: &Wiring, delays: &[u32; 64], limit: u32, heights: &mut [u32;
     *heights = *delays;
     for done in 0..wiring.n {
         let free = if done % 2 == 0 { &forth } else { &back };
-        if sweep(wiring, delays, free, done, heights) == 0 {
+        if !sweep(wiring, delays, free, done, heights) {
             return true;
         }
         if limit < highest(wiring.n, heights) {
