@@ -25,7 +25,7 @@ returns-then-not-sweep c = risen_still _ _ _ _ _ _ _ _ c.loop-done.invariant.2 (
 
 pub highest-requires : goal.highest-requires
 highest-requires c = let w = c.args.wiring.now.wires in
-    (w.some_block, w.few_blocks, c.sweep.ensures.heights.long)
+    (w.some_block, w.few_blocks)
 
 pub returns-then-limit-highest : goal.returns-then-limit-highest
 returns-then-limit-highest c = risen_above _ _ _ _ _ _ (omega (arith, c.args.wiring.now.wires.few_blocks)) c.sweep.ensures.heights c.highest.ensures c.if-limit-highest.true
