@@ -16,7 +16,7 @@ const FAR: usize = 18446744071562067968;
 
 // Where a wire out of block f starts: at the bare start block u, or at what the row holds for f.
 fn base(start: usize, u: usize, f: usize, keys: &[usize; 64]) -> usize
-    requires { (length keys.now ≡ 64) × (f < 64) }
+    requires { f < 64 }
     ensures { result ≡ base_of start u (held keys.now) f }
 {
     if f == u { start } else { keys[f] }
@@ -96,7 +96,7 @@ fn delay_of(k: usize) -> u32
 
 // The registers and the delay of each of n keys, into the row.
 fn unpack(n: usize, keys: &[usize; 64], ws: &mut [u32], ds: &mut [u32])
-    requires { (n ≤ 64) × (length keys.now ≡ 64) × (length ws.old ≡ n) × (length ds.old ≡ n) × Whole n keys.now }
+    requires { (n ≤ 64) × (length ws.old ≡ n) × (length ds.old ≡ n) × Whole n keys.now }
     ensures { (ws.new ≡ filled (λ v. key_w (get_or keys.now v 0)) n ws.old) × (ds.new ≡ filled (λ v. key_d (get_or keys.now v 0)) n ds.old) }
 {
     for v in 0..n {
