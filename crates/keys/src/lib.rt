@@ -22,7 +22,7 @@ pub fn fill_keys(ordered: &Ordered<'_>, keys: &mut [u32; 4096])
     blank(ordered.wiring.n, ordered.delays, keys);
     let mut versions = Versions::new();
     let mut way = Direction::Forwards;
-    while sweep(ordered, way, &mut versions, keys) > 0 {
+    while sweep(ordered, way, &mut versions, keys) {
         way = way.turned();
     }
 }

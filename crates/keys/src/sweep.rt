@@ -40,8 +40,8 @@ impl Versions {
     }
 }
 
-// Meets wire j: the number of entries that it lowers. Each of them gives the end block's row a new version.
-fn step(ordered: &Ordered<'_>, j: usize, versions: &mut Versions, keys: &mut [u32; 4096]) -> u32
+// Meets wire j: whether it lowers an entry. Each entry that it lowers gives the end block's row a new version.
+fn step(ordered: &Ordered<'_>, j: usize, versions: &mut Versions, keys: &mut [u32; 4096]) -> bool
     requires { (j < ordered.now.wiring.now.m) × Counts 64 8598524526593 versions.old.rows × Within keys.old }
     ensures { Stepped (shape_of ordered.now) (weights_of ordered.now) j versions.old.rows versions.old.seen keys.old versions.new.rows versions.new.seen keys.new result }
 {
@@ -51,26 +51,26 @@ fn step(ordered: &Ordered<'_>, j: usize, versions: &mut Versions, keys: &mut [u3
         let t = wiring.to[j] as usize;
         let r = try_wire(keys, f, t, wiring.registers[j] * 1048576, ordered.delays[t]);
         versions.rows[t] += r as usize;
-        return r;
+        return r > 0;
     }
-    0
+    false
 }
 
-// All wires in turn: the number of entries lowered.
+// All wires in turn: whether one of them lowered an entry.
 pub fn sweep(
     ordered: &Ordered<'_>,
     way: Direction,
     versions: &mut Versions,
     keys: &mut [u32; 4096],
-) -> u32
+) -> bool
     requires { Settling (shape_of ordered.now) (weights_of ordered.now) versions.old.rows versions.old.seen keys.old }
     ensures { Swept (shape_of ordered.now) (weights_of ordered.now) keys.old versions.new.rows versions.new.seen keys.new result }
 {
     let m = ordered.wiring.m;
-    let mut changed = 0;
+    let mut lowered = false;
     for p in 0..m {
         let j = ordered.turns[way.place(m, p)];
-        changed += step(ordered, j, versions, keys);
+        lowered |= step(ordered, j, versions, keys);
     }
-    changed
+    lowered
 }

@@ -1,6 +1,6 @@
 -- Heights: what trying a wire and a sweep over all wires come to; settled heights forbid register-free loops; the highest is the period.
 -- Assumes nothing.
-use Rattle.std.specs.Prelude.{◌≡◌, refl, Bool, true, false, ◌⊎◌, List, [], ◌∷◌, ℕ, ◌+◌, ◌*◌, ◌-◌, ◌≤◌, ◌<◌, max, ltb, length, get_or, set, replicate}
+use Rattle.std.specs.Prelude.{◌≡◌, refl, Bool, true, false, ◌||◌, ◌⊎◌, List, [], ◌∷◌, ℕ, ◌+◌, ◌*◌, ◌-◌, ◌≤◌, ◌<◌, max, ltb, length, get_or, set, replicate}
 use Rattle.std.proofs.Common.{sym, ap, ◌∙◌, subst, true≢false, inl, inr, arith, below_more, lt-ltb, le-ltb, length-set, length-append, get_or-set_same, get_or-set_other}
 use Rattle.std.proofs.Math.Decide.{ℕ_discrete, dec_lt}
 use Rattle.std.proofs.lemmas.List.{length-replicate, get_or-replicate, set-get_or}
@@ -127,16 +127,15 @@ module _ (s : Shape) (w : ℕ → ℕ) where
 
   -- ---- a sweep: its start, a turn and its end
   module _ (g : Limits s w) (narrow : s.n ≤ 64) where
-    pub trying_start : (k : ℕ) (list old : List ℕ) → Heights s w k old → Trying s w k 0 list old old 0
+    pub trying_start : (k : ℕ) (list old : List ℕ) → Heights s w k old → Trying s w k 0 list old old false
     trying_start k list old p = record {
       heights = heights_more k (k + 0) old (omega arith) p;
-      few = omega arith;
       keeps = λ v. omega arith;
       tried = λ x h. absurd (omega arith);
       still = λ _. refl;
     }
 
-    module _ (k i j : ℕ) (list old now new : List ℕ) (changed : ℕ) (p : Trying s w k i list old now changed) (wire : j < s.m) (free : w j ≡ 0) (here : get_or list i 0 ≡ j) where
+    module _ (k i j : ℕ) (list old now new : List ℕ) (rose : Bool) (p : Trying s w k i list old now rose) (wire : j < s.m) (free : w j ≡ 0) (here : get_or list i 0 ≡ j) where
       t_lt : s.to j < s.n
       t_lt = g.to_block j wire
 
@@ -158,15 +157,14 @@ module _ (s : Shape) (w : ℕ → ℕ) where
             (λ v h. omega (arith, p.heights.small v h));
       }
 
-      trying_rose : get_or now (s.to j) 0 < offered s w now j → new ≡ set now (s.to j) (offered s w now j) → Trying s w k (i + 1) list old new (changed + 1)
+      trying_rose : get_or now (s.to j) 0 < offered s w now j → new ≡ set now (s.to j) (offered s w now j) → Trying s w k (i + 1) list old new true
       trying_rose l e = rw e (record {
         heights = heights_more (k + i + 1) (k + (i + 1)) _ (omega arith) risen;
-        few = omega (arith, p.few);
         keeps = up;
         tried = below_more (λ (x : ℕ). offered s w old (get_or list x 0) ≤ get_or (set now (s.to j) (offered s w now j)) (s.to (get_or list x 0)) 0) i
             (λ x h. omega (arith, p.tried x h, up' (s.to (get_or list x 0))))
             (rw here (omega (arith, get_or-set_same now (s.to j) (offered s w now j) 0 room, p.keeps (s.from j))));
-        still = λ q. absurd (omega arith);
+        still = λ q. absurd (true≢false q);
       })
         where
           up' : (v : ℕ) → get_or now v 0 ≤ get_or (set now (s.to j) (offered s w now j)) v 0
@@ -175,23 +173,24 @@ module _ (s : Shape) (w : ℕ → ℕ) where
           up : (v : ℕ) → get_or old v 0 ≤ get_or (set now (s.to j) (offered s w now j)) v 0
           up v = omega (arith, p.keeps v, up' v)
 
-      trying_stayed : offered s w now j ≤ get_or now (s.to j) 0 → new ≡ now → Trying s w k (i + 1) list old new changed
+      trying_stayed : offered s w now j ≤ get_or now (s.to j) 0 → new ≡ now → Trying s w k (i + 1) list old new rose
       trying_stayed l e = rw e (record {
         heights = heights_more (k + i) (k + (i + 1)) now (omega arith) p.heights;
-        few = omega (arith, p.few);
         keeps = p.keeps;
         tried = below_more (λ (x : ℕ). offered s w old (get_or list x 0) ≤ get_or now (s.to (get_or list x 0)) 0) i p.tried
             (rw here (omega (arith, p.keeps (s.from j))));
         still = p.still;
       })
 
-    pub trying_next : (k i j : ℕ) (list old now new : List ℕ) (changed changed' : ℕ) → Trying s w k i list old now changed → j < s.m → w j ≡ 0 → get_or list i 0 ≡ j
-        → (b : Bool) → Lifted (s.from j) (s.to j) (s.delay (s.to j)) now new b → (b ≡ true → changed' ≡ changed + 1) → (b ≡ false → changed' ≡ changed) → Trying s w k (i + 1) list old new changed'
-    trying_next k i j list old now new changed changed' p l z e true h up same = rw (up refl) (trying_rose k i j list old now new changed p l z e h.0 h.1)
-    trying_next k i j list old now new changed changed' p l z e false h up same = rw (same refl) (trying_stayed k i j list old now new changed p l z e h.0 h.1)
+    pub trying_next : (k i j : ℕ) (list old now new : List ℕ) (rose : Bool) → Trying s w k i list old now rose → j < s.m → w j ≡ 0 → get_or list i 0 ≡ j
+        → (b : Bool) → Lifted (s.from j) (s.to j) (s.delay (s.to j)) now new b → Trying s w k (i + 1) list old new (rose || b)
+    trying_next k i j list old now new true p l z e true h = trying_rose k i j list old now new true p l z e h.0 h.1
+    trying_next k i j list old now new false p l z e true h = trying_rose k i j list old now new false p l z e h.0 h.1
+    trying_next k i j list old now new true p l z e false h = trying_stayed k i j list old now new true p l z e h.0 h.1
+    trying_next k i j list old now new false p l z e false h = trying_stayed k i j list old now new false p l z e h.0 h.1
 
-    pub swept : (k i k' : ℕ) (list old new : List ℕ) (changed : ℕ) → Listed w s.m i list → k + i ≤ k' → Trying s w k i list old new changed → Swept s w k' old new changed
-    swept k i k' list old new changed q l p = record {
+    pub swept : (k i k' : ℕ) (list old new : List ℕ) (rose : Bool) → Listed w s.m i list → k + i ≤ k' → Trying s w k i list old new rose → Swept s w k' old new rose
+    swept k i k' list old new rose q l p = record {
       heights = heights_more (k + i) k' new l p.heights;
       keeps = p.keeps;
       tried = λ j h z. let e = q.all j h z in
@@ -200,7 +199,7 @@ module _ (s : Shape) (w : ℕ → ℕ) where
     }
 
   -- ---- after one sweep more, paths of one wire more are covered
-  module _ (k k' : ℕ) (old new : List ℕ) (changed : ℕ) (c : Covered s w k old) (p : Swept s w k' old new changed) where
+  module _ (k k' : ℕ) (old new : List ℕ) (rose : Bool) (c : Covered s w k old) (p : Swept s w k' old new rose) where
     more : (u v : ℕ) (ws : List ℕ) → Joins s u ws v → registers_on w ws ≡ 0 → length ws ≤ k + 1 → Last ws → delay_on s u ws ≤ get_or new v 0
     more u v ws h z l nil = omega (arith, c.most u v [] h refl (omega arith), p.keeps v)
     more u v ws h z l (snoc xs j) =
@@ -213,7 +212,7 @@ module _ (s : Shape) (w : ℕ → ℕ) where
     pub covered_more : Covered s w (k + 1) new
     covered_more = record { most = λ u v ws h z l. more u v ws h z l (last ws) }
 
-    pub swept_settled : changed ≡ 0 → Settled s w new
+    pub swept_settled : rose ≡ false → Settled s w new
     swept_settled e j h z = let q = p.still e in omega (arith, rw (← q) at (p.tried j h z))
 
   pub covered_less : (k k' : ℕ) (l : List ℕ) → k' ≤ k → Covered s w k l → Covered s w k' l
@@ -250,9 +249,9 @@ module _ (s : Shape) (w : ℕ → ℕ) where
 
   -- ---- the end: a sweep that changes nothing, as many sweeps as there are blocks, or a height above the limit
   module _ (limit : ℕ) where
-    pub risen_still : (k k' : ℕ) (old new : List ℕ) (changed : ℕ) → Covered s w k old → k' ≤ 16640 → Swept s w k' old new changed → changed ≡ 0 → Risen s w limit new true
-    risen_still k k' old new changed c l p e =
-        let q = swept_settled k k' old new changed c p e in
+    pub risen_still : (k k' : ℕ) (old new : List ℕ) (rose : Bool) → Covered s w k old → k' ≤ 16640 → Swept s w k' old new rose → rose ≡ false → Risen s w limit new true
+    risen_still k k' old new rose c l p e =
+        let q = swept_settled k k' old new rose c p e in
         record {
           long = p.heights.long;
           real = p.heights.real;

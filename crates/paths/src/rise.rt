@@ -1,6 +1,6 @@
 // Heights over the register-free wires: the longest register-free path into each block, found in sweeps over those wires
 // alone. Where a sweep changes nothing, and each block has a delay, no loop is register-free.
-ghost use Rattle.std.specs.Prelude.{◌≡◌, ℕ, ◌+◌, ◌*◌, ◌<◌, ◌≤◌, length, get_or};
+ghost use Rattle.std.specs.Prelude.{◌≡◌, ℕ, ◌+◌, ◌*◌, ◌<◌, ◌≤◌, get_or};
 ghost use Rattle.paths.specs.Lists.{Delays};
 ghost use Rattle.paths.specs.Table.{LoopAt, Period};
 ghost use Rattle.paths.specs.Rise.{Listed, Lifted, Highest, Heights, Swept, Risen};
@@ -48,7 +48,7 @@ impl FreeWires {
 
 // Tries a wire from f to t, where block t has delay d: true where t rose. Its height is stored in either case.
 fn lift(f: usize, t: usize, d: u32, heights: &mut [u32; 64]) -> bool
-    requires { (f < 64) × (t < 64) × (length heights.old ≡ 64) × (get_or heights.old f 0 + d < 4294967296) }
+    requires { (f < 64) × (t < 64) × (get_or heights.old f 0 + d < 4294967296) }
     ensures { Lifted f t d heights.old heights.new result }
 {
     let x = heights[f] + d;
@@ -57,32 +57,30 @@ fn lift(f: usize, t: usize, d: u32, heights: &mut [u32; 64]) -> bool
     old < x
 }
 
-// One sweep over the listed wires: how many blocks rose. `done` counts the sweeps before it and bounds the heights.
+// One sweep over the listed wires: whether a block rose. `done` counts the sweeps before it and bounds the heights.
 fn sweep(
     wiring: &Wiring,
     delays: &[u32; 64],
     free: &FreeWires,
     done: usize,
     heights: &mut [u32; 64],
-) -> usize
+) -> bool
     requires wires { Delays wiring.now.n delays.now × Listed (weights wiring.now) wiring.now.m free.now.count free.now.list × (done ≤ 64) }
     requires heights { Heights (wired wiring.now delays.now) (weights wiring.now) (256 * done) heights.old }
     ensures { Swept (wired wiring.now delays.now) (weights wiring.now) (256 * (done + 1)) heights.old heights.new result }
 {
-    let mut changed = 0;
+    let mut rose = false;
     for i in 0..free.count {
         let j = free.list[i] as usize;
         let t = wiring.to[j] as usize;
-        if lift(wiring.from[j] as usize, t, delays[t], heights) {
-            changed += 1;
-        }
+        rose |= lift(wiring.from[j] as usize, t, delays[t], heights);
     }
-    changed
+    rose
 }
 
 // The largest of the first n heights.
 fn highest(n: usize, heights: &[u32; 64]) -> u32
-    requires { (1 ≤ n) × (n ≤ 64) × (length heights.now ≡ 64) }
+    requires { (1 ≤ n) × (n ≤ 64) }
     ensures { Highest heights.now n result }
 {
     let mut best = heights[0];
@@ -103,7 +101,7 @@ pub fn rise(wiring: &Wiring, delays: &[u32; 64], limit: u32, heights: &mut [u32;
     *heights = *delays;
     for done in 0..wiring.n {
         let free = if done % 2 == 0 { &forth } else { &back };
-        if sweep(wiring, delays, free, done, heights) == 0 {
+        if !sweep(wiring, delays, free, done, heights) {
             return true;
         }
         if limit < highest(wiring.n, heights) {
@@ -120,6 +118,6 @@ pub fn longest_free(wiring: &Wiring, delays: &[u32; 64]) -> u32
     ensures { Period (wired wiring.now delays.now) (weights wiring.now) result }
 {
     let mut heights = [0; 64];
-    rise(wiring, delays, 4294967295, &mut heights);
+    rise(wiring, delays, u32::MAX, &mut heights);
     highest(wiring.n, &heights)
 }

@@ -43,9 +43,9 @@ module _ (s : Shape) (w : ℕ → ℕ) (u : ℕ) where
     pub relaxed : Relaxed s w u j (row_w s.n keys) (row_d s.n keys) (row_w s.n keys') (row_d s.n keys') b
 
   -- all wires were tried
-  pub record TriedAll (k : ℕ) (keys keys' : List ℕ) (changed : ℕ) : Type 0 where
+  pub record TriedAll (k : ℕ) (keys keys' : List ℕ) (improved : Bool) : Type 0 where
     pub whole : Whole s.n keys'
-    pub rounded : Rounded s w u k (row_w s.n keys) (row_d s.n keys) (row_w s.n keys') (row_d s.n keys') changed
+    pub rounded : Rounded s w u k (row_w s.n keys) (row_d s.n keys) (row_w s.n keys') (row_d s.n keys') improved
 
   -- the finished row
   pub record KeysRight (keys : List ℕ) : Type 0 where

@@ -51,11 +51,11 @@ module _ (s : Shape) (w : ℕ → ℕ) (u : ℕ) where
     pub keeps : (v : ℕ) → v < s.n → Ahead (W' v) (D' v) (W v) (D v)
     pub wire : (j : ℕ) → j < i → base_w u W (s.from j) < 4294967295 → Ahead (W' (s.to j)) (D' (s.to j)) (offer_w W j) (offer_d D j)
 
-  -- a row after a round over all wires; `changed` counts the improvements
-  pub record Rounded (k : ℕ) (ws ds ws' ds' : List ℕ) (changed : ℕ) : Type 0 where
+  -- a row after a round over all wires; `improved` says whether there was an improvement
+  pub record Rounded (k : ℕ) (ws ds ws' ds' : List ℕ) (improved : Bool) : Type 0 where
     pub row : Row k ws' ds'
     pub round : Round s.m (held ws) (held ds) (held ws') (held ds')
-    pub still : changed ≡ 0 → (ws' ≡ ws) × (ds' ≡ ds)
+    pub still : improved ≡ false → (ws' ≡ ws) × (ds' ≡ ds)
 
   -- the finished row
   pub record RowRight (ws ds : List ℕ) : Type 0 where

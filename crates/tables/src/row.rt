@@ -16,7 +16,7 @@ const FAR: usize = 18446744071562067968;
 
 // Where a wire out of block f starts: at the bare start block u, or at what the row holds for f.
 fn base(start: usize, u: usize, f: usize, keys: &[usize; 64]) -> usize
-    requires { (length keys.now ≡ 64) × (f < 64) }
+    requires { f < 64 }
     ensures { result ≡ base_of start u (held keys.now) f }
 {
     if f == u { start } else { keys[f] }
@@ -49,19 +49,17 @@ fn relax(costed: &Costed<'_>, u: usize, start: usize, j: usize, keys: &mut [usiz
     better
 }
 
-// One round over all wires: the number of improvements. `done` counts the rounds before it and bounds the row's numbers.
-fn round(costed: &Costed<'_>, u: usize, start: usize, done: usize, keys: &mut [usize; 64]) -> usize
+// One round over all wires: whether one improved a block. `done` counts the rounds before it and bounds the row's numbers.
+fn round(costed: &Costed<'_>, u: usize, start: usize, done: usize, keys: &mut [usize; 64]) -> bool
     requires start { (u < costed.now.wiring.now.n) × (done < 64) × (start + get_or costed.now.delays.now u 0 ≡ 2147483648) }
     requires whole { Whole costed.now.wiring.now.n keys.old × Row (shape_of costed.now) (weights_of costed.now) u (256 * done) (row_w costed.now.wiring.now.n keys.old) (row_d costed.now.wiring.now.n keys.old) }
     ensures { TriedAll (shape_of costed.now) (weights_of costed.now) u (256 * done + 256) keys.old keys.new result }
 {
-    let mut changed = 0;
+    let mut improved = false;
     for j in 0..costed.wiring.m {
-        if relax(costed, u, start, j, keys) {
-            changed += 1;
-        }
+        improved |= relax(costed, u, start, j, keys);
     }
-    changed
+    improved
 }
 
 // The keys of block u's row: at most n rounds from the bare start block.
@@ -74,7 +72,7 @@ fn settle(costed: &Costed<'_>, u: usize) -> [usize; 64]
     let mut keys = [FAR; 64];
     keys[u] = start;
     for done in 0..costed.wiring.n {
-        if round(costed, u, start, done, &mut keys) == 0 {
+        if !round(costed, u, start, done, &mut keys) {
             return keys;
         }
     }
@@ -98,7 +96,7 @@ fn delay_of(k: usize) -> u32
 
 // The registers and the delay of each of n keys, into the row.
 fn unpack(n: usize, keys: &[usize; 64], ws: &mut [u32], ds: &mut [u32])
-    requires { (n ≤ 64) × (length keys.now ≡ 64) × (length ws.old ≡ n) × (length ds.old ≡ n) × Whole n keys.now }
+    requires { (n ≤ 64) × (length ws.old ≡ n) × (length ds.old ≡ n) × Whole n keys.now }
     ensures { (ws.new ≡ filled (λ v. key_w (get_or keys.now v 0)) n ws.old) × (ds.new ≡ filled (λ v. key_d (get_or keys.now v 0)) n ds.old) }
 {
     for v in 0..n {

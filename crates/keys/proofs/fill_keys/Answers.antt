@@ -1,5 +1,4 @@
 -- Every sweep but the last lowers the sum of the keys; after it all wires hold.
-use native.Mathlib.Omega.{arith}
 use Rattle.keys.specs.Laws.Stand.{keyed}
 use Rattle.keys.specs.Laws.Sweep.{settling_start}
 use Rattle.keys.proofs.fill_keys.Goals as goal
@@ -11,4 +10,4 @@ pub returns : goal.returns
 returns c =
     let o = c.args.ordered.now in
     let S = c.sweep.ensures in
-    keyed _ _ o.wiring.now.wires.few_blocks o.slow S.settling.standing (S.ended (omega arith))
+    keyed _ _ o.wiring.now.wires.few_blocks o.slow S.settling.standing (S.ended c.loop-versions-test.false)

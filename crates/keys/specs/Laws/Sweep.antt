@@ -1,9 +1,9 @@
 -- A sweep: its start, a wire met, its end.
 -- Assumes nothing.
-use Rattle.std.specs.Prelude.{◌≡◌, refl, ◌⊎◌, List, ℕ, ◌+◌, ◌*◌, ◌-◌, ◌/◌, ◌%◌, ◌≤◌, ◌<◌, length, get_or, set, replicate}
+use Rattle.std.specs.Prelude.{◌≡◌, refl, Bool, true, false, ◌||◌, ◌⊎◌, List, ℕ, ◌+◌, ◌*◌, ◌-◌, ◌/◌, ◌%◌, ◌≤◌, ◌<◌, length, get_or, set, replicate}
 use Rattle.std.specs.Coded.{le_prop}
 use Rattle.std.proofs.Math.Logic.{∥∥₁_elim}
-use Rattle.std.proofs.Common.{sym, ap, ◌∙◌, subst, inl, inr, arith, below_more, length-set}
+use Rattle.std.proofs.Common.{sym, ap, ◌∙◌, subst, true≢false, inl, inr, arith, below_more, length-set}
 use Rattle.std.proofs.lemmas.List.{length-replicate, get_or-replicate}
 use Rattle.sheet.specs.Core.{Shape}
 use Rattle.paths.specs.Wired.{wired, weights}
@@ -26,20 +26,19 @@ turn_every {m} {turns} T Backwards j h =
     (m - 1 - y.0, omega (arith, y.1), ap (λ (i : ℕ). get_or turns i 0) e ∙ y.2)
 turn_every T Forwards j h = T.every j h
 
--- a wire lowers at most one entry for each start block
-pub stepped_few : {s : Shape} {w : ℕ → ℕ} {j : ℕ} {versions seen keys versions' seen' keys' : List ℕ} {r : ℕ} → Stepped s w j versions seen keys versions' seen' keys' r → r ≤ 64
-stepped_few (idle z _ _ _ _) = omega (arith, z)
-stepped_few (tried _ _ L) = L.few
+stepped_least : {s : Shape} {w : ℕ → ℕ} {j : ℕ} {versions seen keys versions' seen' keys' : List ℕ} {b : Bool} → Stepped s w j versions seen keys versions' seen' keys' b → sum keys' ≤ sum keys
+stepped_least (idle _ _ _ ek _) = rw ek (omega arith)
+stepped_least (tried r _ _ _ _ L) = omega (arith, L.less)
 
-stepped_less : {s : Shape} {w : ℕ → ℕ} {j : ℕ} {versions seen keys versions' seen' keys' : List ℕ} {r : ℕ} → Stepped s w j versions seen keys versions' seen' keys' r → sum keys' + r ≤ sum keys
-stepped_less (idle z _ _ ek _) = rw (z, ek) (omega arith)
-stepped_less (tried _ _ L) = L.less
+stepped_less : {s : Shape} {w : ℕ → ℕ} {j : ℕ} {versions seen keys versions' seen' keys' : List ℕ} {b : Bool} → Stepped s w j versions seen keys versions' seen' keys' b → b ≡ true → sum keys' < sum keys
+stepped_less (idle z _ _ _ _) e = absurd (true≢false (sym e ∙ z))
+stepped_less (tried r up _ _ _ L) e = omega (arith, L.less, up e)
 
 module _ {s : Shape} {w : ℕ → ℕ} where
-  module _ (g : Limits s w) (narrow : s.n ≤ 64) (few_wires : s.m ≤ 256) (j : ℕ) (hj : j < s.m) {versions seen keys versions' seen' keys' : List ℕ} {r : ℕ}
+  module _ (g : Limits s w) (narrow : s.n ≤ 64) (few_wires : s.m ≤ 256) (j : ℕ) (hj : j < s.m) {versions seen keys versions' seen' keys' : List ℕ}
       (X : Settling s w versions seen keys) where
     -- the wire was tried
-    module _ (ev : versions' ≡ set versions (s.to j) (get_or versions (s.to j) 0 + r)) (es : seen' ≡ set seen j (get_or versions (s.from j) 0))
+    module _ {r : ℕ} (ev : versions' ≡ set versions (s.to j) (get_or versions (s.to j) 0 + r)) (es : seen' ≡ set seen j (get_or versions (s.from j) 0))
         (L : Lanes (s.from j) (s.to j) (w j * 1048576) (s.delay (s.to j)) 64 keys keys' r) where
       -- only the version of the row that the wire leads to grows, by r
       grown : (b : ℕ) → (get_or versions b 0 ≤ get_or versions' b 0) × (get_or versions' b 0 ≤ get_or versions b 0 + r) × (b ≡ s.to j → get_or versions' b 0 ≡ get_or versions b 0 + r)
@@ -89,28 +88,40 @@ module _ {s : Shape} {w : ℕ → ℕ} where
       }
 
     -- wire j holds where it lowered nothing
-    met_now : Stepped s w j versions seen keys versions' seen' keys' r → r ≡ 0 → (keys' ≡ keys) × Holds s w keys j
+    met_now : {b : Bool} → Stepped s w j versions seen keys versions' seen' keys' b → b ≡ false → (keys' ≡ keys) × Holds s w keys j
     met_now (idle _ _ _ ek q) z = (ek, X.quiet j hj q)
-    met_now (tried _ _ L) z = (L.same z, λ u hu. omega (arith, L.lowered u hu, ap (λ (l : List ℕ). entry l u (s.to j)) (L.same z)))
+    met_now (tried r _ none _ _ L) z = (L.same (none z), λ u hu. omega (arith, L.lowered u hu, ap (λ (l : List ℕ). entry l u (s.to j)) (L.same (none z))))
 
-    settling_next : Stepped s w j versions seen keys versions' seen' keys' r → Settling s w versions' seen' keys'
+    settling_next : {b : Bool} → Stepped s w j versions seen keys versions' seen' keys' b → Settling s w versions' seen' keys'
     settling_next (idle _ ev es ek _) = rw (ev, es, ek) X
-    settling_next (tried ev es L) = settling_tried ev es L
+    settling_next (tried r _ _ ev es L) = settling_tried ev es L
 
-  pub sweep_turn : Limits s w → s.n ≤ 64 → s.m ≤ 256 → {turn : ℕ → ℕ} {first versions seen keys versions' seen' keys' : List ℕ} {p changed r : ℕ} (j : ℕ) → j < s.m → j ≡ turn p
-      → Sweeping s w turn first p versions seen keys changed → Stepped s w j versions seen keys versions' seen' keys' r → Sweeping s w turn first (p + 1) versions' seen' keys' (changed + r)
-  sweep_turn g narrow few_wires {turn} {first} {versions} {seen} {keys} {versions'} {seen'} {keys'} {p} {changed} {r} j hj is X Y = record {
+  pub sweep_turn : Limits s w → s.n ≤ 64 → s.m ≤ 256 → {turn : ℕ → ℕ} {first versions seen keys versions' seen' keys' : List ℕ} {p : ℕ} {lowered b : Bool} (j : ℕ) → j < s.m → j ≡ turn p
+      → Sweeping s w turn first p versions seen keys lowered → Stepped s w j versions seen keys versions' seen' keys' b → Sweeping s w turn first (p + 1) versions' seen' keys' (lowered || b)
+  sweep_turn g narrow few_wires {turn} {first} {versions} {seen} {keys} {versions'} {seen'} {keys'} {p} {lowered} {b} j hj is X Y = record {
     settling = settling_next g narrow few_wires j hj X.settling Y;
-    few = omega (arith, X.few, stepped_few Y);
-    less = omega (arith, X.less, stepped_less Y);
-    met = λ z. let y = met_now g narrow few_wires j hj X.settling Y (omega (arith, z)) in
-        rw y.0 (below_more (λ (q : ℕ). Holds s w keys (turn q)) p (X.met (omega (arith, z))) (rw (← is) y.1));
+    least = omega (arith, X.least, stepped_least Y);
+    less = less lowered b X.less (stepped_less Y);
+    met = met lowered b X.met (met_now g narrow few_wires j hj X.settling Y);
   }
+    where
+      less : (x y : Bool) → (x ≡ true → sum keys < sum first) → (y ≡ true → sum keys' < sum keys) → (x || y) ≡ true → sum keys' < sum first
+      less true y f h e = omega (arith, f refl, stepped_least Y)
+      less false true f h e = omega (arith, X.least, h refl)
+      less false false f h e = absurd (true≢false (sym e))
 
-  pub sweep_ends : {turns : List ℕ} (way : Direction) {first versions seen keys : List ℕ} {p changed : ℕ} → ∥ Turns s.m turns ∥₁ → s.m ≤ p → p ≤ s.m
-      → Sweeping s w (turn_at s.m turns way) first p versions seen keys changed → Swept s w first versions seen keys changed
+      met : (x y : Bool) → (x ≡ false → (q : ℕ) → q < p → Holds s w keys (turn q)) → (y ≡ false → (keys' ≡ keys) × Holds s w keys j)
+          → (x || y) ≡ false → (q : ℕ) → q < p + 1 → Holds s w keys' (turn q)
+      met true true f h e = absurd (true≢false e)
+      met true false f h e = absurd (true≢false e)
+      met false true f h e = absurd (true≢false e)
+      met false false f h e = rw (h refl).0 (below_more (λ (q : ℕ). Holds s w keys (turn q)) p (f refl) (rw (← is) (h refl).1))
+
+  pub sweep_ends : {turns : List ℕ} (way : Direction) {first versions seen keys : List ℕ} {p : ℕ} {lowered : Bool} → ∥ Turns s.m turns ∥₁ → s.m ≤ p → p ≤ s.m
+      → Sweeping s w (turn_at s.m turns way) first p versions seen keys lowered → Swept s w first versions seen keys lowered
   sweep_ends {turns} way {keys = keys} T h1 h2 X = record {
     settling = X.settling;
+    least = X.least;
     less = X.less;
     ended = λ z j hj u hu. ∥∥₁_elim T le_prop (λ t. let y = turn_every t way j hj in subst (Holds s w keys) y.2 (X.met z y.0 (omega (arith, y.1))) u hu);
   }

@@ -1,7 +1,7 @@
 -- The table's entries: they are unique, they exist, a best path is short and is completed wire by wire from its end.
 -- Assumes nothing.
-use Rattle.std.specs.Prelude.{◌≡◌, refl, Bool, true, false, ◌⊎◌, List, [], ◌∷◌, ◌++◌, ℕ, zero, suc, ◌+◌, ◌*◌, ◌≤◌, ◌<◌, length, get_or, set, replicate}
-use Rattle.std.proofs.Common.{sym, ap, ◌∙◌, true≢false, inl, inr, append_assoc, arith, add-one}
+use Rattle.std.specs.Prelude.{◌≡◌, refl, Bool, true, false, ◌||◌, ◌⊎◌, List, [], ◌∷◌, ◌++◌, ℕ, zero, suc, ◌+◌, ◌*◌, ◌≤◌, ◌<◌, length, get_or, set, replicate}
+use Rattle.std.proofs.Common.{sym, ap, ◌∙◌, inl, inr, append_assoc, arith, add-one}
 use Rattle.std.proofs.Math.Decide.{ℕ_discrete, dec_lt}
 use Rattle.std.proofs.lemmas.List.{length-replicate}
 use Rattle.sheet.specs.Core.{Shape}
@@ -211,11 +211,11 @@ module _ (s : Shape) (w : ℕ → ℕ) (g : Limits s w) (n_le : s.n ≤ 64) (m_l
   record Rounding (k j : ℕ) (ws₀ ds₀ : List ℕ) : Type 0 where
     ws : List ℕ
     ds : List ℕ
-    changed : ℕ
-    part : Part s w u k j ws₀ ds₀ ws ds changed
+    improved : Bool
+    part : Part s w u k j ws₀ ds₀ ws ds improved
 
   rounding : (k : ℕ) (ws₀ ds₀ : List ℕ) → Row s w u k ws₀ ds₀ → k ≤ 16128 → (j : ℕ) → j ≤ s.m → Rounding k j ws₀ ds₀
-  rounding k ws₀ ds₀ r few zero l = record { ws = ws₀; ds = ds₀; changed = 0; part = part_start s w u k ws₀ ds₀ g u_lt r }
+  rounding k ws₀ ds₀ r few zero l = record { ws = ws₀; ds = ds₀; improved = false; part = part_start s w u k ws₀ ds₀ g u_lt r }
   rounding k ws₀ ds₀ r few (suc j) l =
       let p = rounding k ws₀ ds₀ r few j (omega arith) in
       let t = tried j p.ws p.ds in
@@ -225,14 +225,14 @@ module _ (s : Shape) (w : ℕ → ℕ) (g : Limits s w) (n_le : s.n ≤ 64) (m_l
       next p t true x = record {
         ws = t.ws';
         ds = t.ds';
-        changed = p.changed + 1;
-        part = rw add-one at (part_next s w u k ws₀ ds₀ g u_lt j p.ws p.ds t.ws' t.ds' p.changed (p.changed + 1) p.part l (omega arith) true x (λ _. refl) (λ e. absurd (true≢false e)));
+        improved = p.improved || true;
+        part = rw add-one at (part_next s w u k ws₀ ds₀ g u_lt j p.ws p.ds t.ws' t.ds' p.improved p.part l (omega arith) true x);
       }
       next p t false x = record {
         ws = t.ws';
         ds = t.ds';
-        changed = p.changed;
-        part = rw add-one at (part_next s w u k ws₀ ds₀ g u_lt j p.ws p.ds t.ws' t.ds' p.changed p.changed p.part l (omega arith) false x (λ e. absurd (true≢false (sym e))) (λ _. refl));
+        improved = p.improved || false;
+        part = rw add-one at (part_next s w u k ws₀ ds₀ g u_lt j p.ws p.ds t.ws' t.ds' p.improved p.part l (omega arith) false x);
       }
 
   record Rowing (done : ℕ) : Type 0 where
@@ -253,7 +253,7 @@ module _ (s : Shape) (w : ℕ → ℕ) (g : Limits s w) (n_le : s.n ≤ 64) (m_l
       record {
         ws = q.ws;
         ds = q.ds;
-        filling = rw add-one at (filling_turn s w u g u_lt free n_le done p.ws p.ds q.ws q.ds q.changed l p.filling (part_end s w u (256 * done) p.ws p.ds g u_lt q.ws q.ds s.m q.changed (omega arith) (omega arith) m_le q.part));
+        filling = rw add-one at (filling_turn s w u g u_lt free n_le done p.ws p.ds q.ws q.ds q.improved l p.filling (part_end s w u (256 * done) p.ws p.ds g u_lt q.ws q.ds s.m q.improved (omega arith) (omega arith) m_le q.part));
       }
 
   rowing : (done : ℕ) → done ≤ s.n → Rowing done

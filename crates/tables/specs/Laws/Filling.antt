@@ -1,6 +1,6 @@
 -- A row from its clearing to its end: n rounds, or fewer where one changes nothing, give the table's entries.
 -- Assumes nothing.
-use Rattle.std.specs.Prelude.{◌≡◌, refl, ◌⊎◌, List, ℕ, ◌+◌, ◌*◌, ◌-◌, ◌≤◌, ◌<◌, length, get_or, set}
+use Rattle.std.specs.Prelude.{◌≡◌, refl, ◌⊎◌, List, ℕ, ◌+◌, ◌*◌, ◌-◌, ◌≤◌, ◌<◌, length, get_or, set, Bool, false}
 use Rattle.std.proofs.Common.{ap, ◌∙◌, subst, inl, inr, arith, length-set, get_or-set_same}
 use Rattle.sheet.specs.Core.{Shape}
 use Rattle.sheet.specs.Filled.{filled}
@@ -65,16 +65,16 @@ module _ (s : Shape) (w : ℕ → ℕ) (u : ℕ) (g : Limits s w) (u_lt : u < s.
       entry = λ v l. covered_entry s w u free g.few n_le (held ws) (held ds) c v (r.real v l) (r.blank v l);
     }
 
-    module _ (done : ℕ) (ws ds ws' ds' : List ℕ) (changed : ℕ) (few : done < s.n) (f : Filling s w u done ws ds)
-        (r : Rounded s w u (256 * done + 256) ws ds ws' ds' changed) where
+    module _ (done : ℕ) (ws ds ws' ds' : List ℕ) (improved : Bool) (few : done < s.n) (f : Filling s w u done ws ds)
+        (r : Rounded s w u (256 * done + 256) ws ds ws' ds' improved) where
       pub filling_turn : Filling s w u (done + 1) ws' ds'
       filling_turn = record {
         row = subst (λ (k : ℕ). Row s w u k ws' ds') (omega arith) r.row;
         covers = covers_next s w u free g.few done (omega arith) (held ws) (held ds) (held ws') (held ds') f.covers r.round;
       }
 
-      -- nothing changed: the row covers every path
-      still_covers : changed ≡ 0 → Covers s w u s.n (held ws') (held ds')
+      -- nothing improved: the row covers every path
+      still_covers : improved ≡ false → Covers s w u s.n (held ws') (held ds')
       still_covers e =
           let q = r.still e in
           let o : Round s w u s.m (held ws') (held ds') (held ws') (held ds') = rw (← q.0, ← q.1) at r.round in
@@ -82,7 +82,7 @@ module _ (s : Shape) (w : ℕ → ℕ) (u : ℕ) (g : Limits s w) (u_lt : u < s.
           subst (λ (k : ℕ). Covers s w u k (held ws') (held ds')) (omega arith)
           (covers_still s w u free g.few (held ws') (held ds') o (s.n - done) done (omega arith) c)
 
-      pub filling_stops : changed ≡ 0 → RowRight s w u ws' ds'
+      pub filling_stops : improved ≡ false → RowRight s w u ws' ds'
       filling_stops e = right (256 * done + 256) ws' ds' r.row (still_covers e)
 
     pub filling_ends : (done : ℕ) (ws ds : List ℕ) → s.n ≤ done → done ≤ s.n → Filling s w u done ws ds → RowRight s w u ws ds

@@ -1,7 +1,7 @@
 -- What trying one wire does to a row, and what a round of tries comes to.
 -- Assumes nothing.
-use Rattle.std.specs.Prelude.{◌≡◌, refl, Bool, true, false, ◌⊎◌, List, ℕ, ◌+◌, ◌*◌, ◌≤◌, ◌<◌, length, get_or, set}
-use Rattle.std.proofs.Common.{sym, ap, ◌∙◌, subst, inl, arith, below_more, length-set, get_or-set_same, get_or-set_other}
+use Rattle.std.specs.Prelude.{◌≡◌, refl, Bool, true, false, ◌||◌, ◌⊎◌, List, ℕ, ◌+◌, ◌*◌, ◌≤◌, ◌<◌, length, get_or, set}
+use Rattle.std.proofs.Common.{sym, ap, ◌∙◌, subst, true≢false, inl, arith, below_more, length-set, get_or-set_same, get_or-set_other}
 use Rattle.std.proofs.Math.Decide.{ℕ_discrete}
 use Rattle.paths.proofs.Way.{Limits}
 use Rattle.sheet.specs.Core.{Shape}
@@ -111,36 +111,36 @@ module _ (s : Shape) (w : ℕ → ℕ) (u : ℕ) (g : Limits s w) (u_lt : u < s.
   pub round_none : (W D : ℕ → ℕ) → Round s w u 0 W D W D
   round_none W D = record { keeps = λ v l. ahead_refl _ _; wire = λ j l. absurd (omega arith) }
 
--- ---- a round that has tried the wires below j; `changed` counts the improvements
-pub record Part (s : Shape) (w : ℕ → ℕ) (u k j : ℕ) (ws₀ ds₀ ws ds : List ℕ) (changed : ℕ) : Type 0 where
+-- ---- a round that has tried the wires below j; `improved` says whether there was an improvement
+pub record Part (s : Shape) (w : ℕ → ℕ) (u k j : ℕ) (ws₀ ds₀ ws ds : List ℕ) (improved : Bool) : Type 0 where
   pub row : Row s w u (k + j) ws ds
   pub round : Round s w u j (held ws₀) (held ds₀) (held ws) (held ds)
-  pub still : changed ≡ 0 → (ws ≡ ws₀) × (ds ≡ ds₀)
+  pub still : improved ≡ false → (ws ≡ ws₀) × (ds ≡ ds₀)
 
 module _ (s : Shape) (w : ℕ → ℕ) (u k : ℕ) (ws₀ ds₀ : List ℕ) (g : Limits s w) (u_lt : u < s.n) where
-  pub part_start : Row s w u k ws₀ ds₀ → Part s w u k 0 ws₀ ds₀ ws₀ ds₀ 0
+  pub part_start : Row s w u k ws₀ ds₀ → Part s w u k 0 ws₀ ds₀ ws₀ ds₀ false
   part_start r = record {
     row = row_more s w u g u_lt k (k + 0) ws₀ ds₀ (omega arith) r;
     round = round_none s w u g u_lt (held ws₀) (held ds₀);
     still = λ _. (refl, refl);
   }
 
-  module _ (j : ℕ) (ws ds ws' ds' : List ℕ) (changed changed' : ℕ) (p : Part s w u k j ws₀ ds₀ ws ds changed) (j_lt : j < s.m) (few : k + j ≤ 16384) where
-    pub part_next : (b : Bool) → Relaxed s w u j ws ds ws' ds' b → (b ≡ true → changed' ≡ changed + 1) → (b ≡ false → changed' ≡ changed)
-        → Part s w u k (j + 1) ws₀ ds₀ ws' ds' changed'
-    part_next b r up same = record {
+  module _ (j : ℕ) (ws ds ws' ds' : List ℕ) (improved : Bool) (p : Part s w u k j ws₀ ds₀ ws ds improved) (j_lt : j < s.m) (few : k + j ≤ 16384) where
+    pub part_next : (b : Bool) → Relaxed s w u j ws ds ws' ds' b → Part s w u k (j + 1) ws₀ ds₀ ws' ds' (improved || b)
+    part_next b r = record {
       row = row_more s w u g u_lt (k + j + 1) (k + (j + 1)) ws' ds' (omega arith) (relaxed_row s w u g u_lt (k + j) j ws ds ws' ds' few j_lt p.row b r);
       round = round_next s w u g u_lt (k + j) j ws ds ws' ds' few j_lt p.row (held ws₀) (held ds₀) p.round b r;
-      still = go b r up same;
+      still = go improved b p.still r;
     }
       where
-        go : (b : Bool) → Relaxed s w u j ws ds ws' ds' b → (b ≡ true → changed' ≡ changed + 1) → (b ≡ false → changed' ≡ changed)
-            → changed' ≡ 0 → (ws' ≡ ws₀) × (ds' ≡ ds₀)
-        go true r up same e = absurd (omega (arith, up refl))
-        go false r up same e = let q = p.still (omega (arith, same refl)) in (r.1 ∙ q.0, r.2 ∙ q.1)
+        go : (i b : Bool) → (i ≡ false → (ws ≡ ws₀) × (ds ≡ ds₀)) → Relaxed s w u j ws ds ws' ds' b → (i || b) ≡ false → (ws' ≡ ws₀) × (ds' ≡ ds₀)
+        go true true q r e = absurd (true≢false e)
+        go true false q r e = absurd (true≢false e)
+        go false true q r e = absurd (true≢false e)
+        go false false q r e = (r.1 ∙ (q refl).0, r.2 ∙ (q refl).1)
 
-  pub part_end : (ws ds : List ℕ) (j changed : ℕ) → s.m ≤ j → j ≤ s.m → s.m ≤ 256 → Part s w u k j ws₀ ds₀ ws ds changed → Rounded s w u (k + 256) ws₀ ds₀ ws ds changed
-  part_end ws ds j changed l h few p = record {
+  pub part_end : (ws ds : List ℕ) (j : ℕ) (improved : Bool) → s.m ≤ j → j ≤ s.m → s.m ≤ 256 → Part s w u k j ws₀ ds₀ ws ds improved → Rounded s w u (k + 256) ws₀ ds₀ ws ds improved
+  part_end ws ds j improved l h few p = record {
     row = row_more s w u g u_lt (k + j) (k + 256) ws ds (omega arith) p.row;
     round = subst (λ (i : ℕ). Round s w u i (held ws₀) (held ds₀) (held ws) (held ds)) (omega arith) p.round;
     still = p.still;

@@ -14,7 +14,7 @@ loop-j-init c = (c.search.invariant.0, below_none _)
 
 pub returns_to-requires : goal.returns_to-requires
 returns_to-requires c = let w = c.args.wiring.now.wires in
-    (omega (arith, w.few_blocks, w.from_block c.loop-j.j c.loop-j-test.true), c.reach-seen.ensures.flags)
+    omega (arith, w.few_blocks, w.from_block c.loop-j.j c.loop-j-test.true)
 
 pub loop-j-preserved : goal.loop-j-preserved
 loop-j-preserved c = (c.loop-j.invariant.0, below_more _ _ c.loop-j.invariant.1 (told_false _ _ c.returns_to.ensures c.if-returns_to.false))

@@ -20,12 +20,12 @@ sweep-requires c =
       | else-done-eq0 h ↦ record { wires = (c.requires, rw h.free-is i.4, done); heights = i.1 }
     ]
 
-pub returns-then-sweep-eq0 : goal.returns-then-sweep-eq0
-returns-then-sweep-eq0 c = risen_still _ _ _ _ _ _ _ _ c.loop-done.invariant.2 (omega (arith, c.args.wiring.now.wires.few_blocks)) c.sweep.ensures c.if-sweep-eq0.true
+pub returns-then-not-sweep : goal.returns-then-not-sweep
+returns-then-not-sweep c = risen_still _ _ _ _ _ _ _ _ c.loop-done.invariant.2 (omega (arith, c.args.wiring.now.wires.few_blocks)) c.sweep.ensures c.if-not-sweep.true
 
 pub highest-requires : goal.highest-requires
 highest-requires c = let w = c.args.wiring.now.wires in
-    (w.some_block, w.few_blocks, c.sweep.ensures.heights.long)
+    (w.some_block, w.few_blocks)
 
 pub returns-then-limit-highest : goal.returns-then-limit-highest
 returns-then-limit-highest c = risen_above _ _ _ _ _ _ (omega (arith, c.args.wiring.now.wires.few_blocks)) c.sweep.ensures.heights c.highest.ensures c.if-limit-highest.true

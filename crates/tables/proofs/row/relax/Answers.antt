@@ -7,7 +7,7 @@ use Rattle.tables.proofs.row.relax.Goals.{then-better, else-better}
 pub base-k-requires : goal.base-k-requires
 base-k-requires c =
     let w = c.args.costed.now.wiring.now.wires in
-    (c.requires.whole.0.long, omega (arith, w.from_block _ c.requires.start.1, w.few_blocks))
+    omega (arith, w.from_block _ c.requires.start.1, w.few_blocks)
 
 pub returns-then-k : goal.returns-then-k
 returns-then-k c =

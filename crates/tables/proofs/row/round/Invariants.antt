@@ -1,5 +1,5 @@
 -- The wires below j were tried.
-use Rattle.std.proofs.Common.{◌≤◌, ◌*◌}
+use Rattle.std.proofs.Common.{◌*◌}
 use Rattle.tables.specs.Costed.{shape_of, weights_of}
 use Rattle.tables.specs.Keys.{row_w, row_d, Whole}
 use Rattle.tables.specs.Laws.Relax.{Part}
@@ -8,6 +8,5 @@ use Rattle.tables.proofs.row.round.Given as goal
 abbrev pub invariant-loop-j : goal.invariant-loop-j
 invariant-loop-j l =
     let n = l.costed.wiring.now.n in
-    (l.changed ≤ l.j)
-    × Whole n l.keys
-    × Part (shape_of l.costed) (weights_of l.costed) l.u (256 * l.done) l.j (row_w n l.initial.keys) (row_d n l.initial.keys) (row_w n l.keys) (row_d n l.keys) l.changed
+    Whole n l.keys
+    × Part (shape_of l.costed) (weights_of l.costed) l.u (256 * l.done) l.j (row_w n l.initial.keys) (row_d n l.initial.keys) (row_w n l.keys) (row_d n l.keys) l.improved

@@ -29,12 +29,12 @@ round-requires c =
     let d = c.args.costed.now in
     record { start = (c.requires.block, omega (arith, d.wiring.now.wires.few_blocks), omega (arith, d.small.small _ c.requires.block)); whole = (c.loop-done.invariant.0, c.loop-done.invariant.1.row) }
 
-pub returns-then-round-eq0 : goal.returns-then-round-eq0
-returns-then-round-eq0 c =
+pub returns-then-not-round : goal.returns-then-not-round
+returns-then-not-round c =
     let d = c.args.costed.now in
     record {
       whole = c.round.ensures.whole;
-      right = filling_stops _ _ _ (limits _ _ _ _ _ _ d.wiring.now.wires d.small) c.requires.block c.requires.no_loop d.wiring.now.wires.few_blocks _ _ _ _ _ _ c.loop-done-test.true c.loop-done.invariant.1 c.round.ensures.rounded c.if-round-eq0.true;
+      right = filling_stops _ _ _ (limits _ _ _ _ _ _ d.wiring.now.wires d.small) c.requires.block c.requires.no_loop d.wiring.now.wires.few_blocks _ _ _ _ _ _ c.loop-done-test.true c.loop-done.invariant.1 c.round.ensures.rounded c.if-not-round.true;
     }
 
 pub loop-done-preserved : goal.loop-done-preserved

@@ -10,7 +10,7 @@ pub loop-v-init : goal.loop-v-init
 loop-v-init c = (search rules, search rules, sym (filled_none _ _), sym (filled_none _ _))
 
 pub delay_of-requires : goal.delay_of-requires
-delay_of-requires c = c.requires.4.half _ c.loop-v-test.true
+delay_of-requires c = c.requires.3.half _ c.loop-v-test.true
 
 pub loop-v-preserved : goal.loop-v-preserved
 loop-v-preserved c =
