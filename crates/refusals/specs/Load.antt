@@ -1,5 +1,5 @@
 -- What the solver is given once it is loaded from a sheet.
-use Rattle.std.specs.Prelude.{◌≡◌, List, ℕ, ◌+◌, ◌-◌, length}
+use Rattle.std.specs.Prelude.{◌≡◌, List, ℕ, ◌+◌, ◌-◌}
 use Rattle.solver.specs.declared.Given.{Given}
 use Rattle.solver.specs.System.{Fit}
 use Rattle.solver.specs.Laws.Begun.{blank}
@@ -12,12 +12,8 @@ wire_bound w = w + 32768
 abbrev pub ceiling_bound : ℕ → ℕ → ℕ
 ceiling_bound ceiling w = ceiling + 32768 - w
 
--- lists of wires that can be loaded, without a path table and without path rules
+-- no path table yet, and no path rules
 pub record Unused (g : Given) : Type 0 where
-  pub from_long : length g.from ≡ 256
-  pub to_long : length g.to ≡ 256
-  pub wires_long : length g.wires ≡ 256
-  pub ceilings_long : length g.ceilings ≡ 256
   pub period_is : g.period ≡ 4294967295
   pub registers_are : g.registers ≡ blank
   pub delays_are : g.delays ≡ blank

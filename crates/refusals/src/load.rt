@@ -40,9 +40,8 @@ fn load_wires(
 // the lists stand once on the stack.
 #[inline(never)]
 pub fn load(sheet: Sound<'_>, given: &mut Given)
-    requires sheet { (given.old.n ≡ sheet.n) × (given.old.m ≡ sheet.m) }
-    requires unused { Unused given.old }
-    ensures { Loaded sheet.entry.bytes.now given.new }
+    requires { (given.old.n ≡ sheet.n) × (given.old.m ≡ sheet.m) }
+    ensures { Unused given.old → Loaded sheet.entry.bytes.now given.new }
 {
     let formed = sheet.formed();
     let Limits { lower, upper } = formed.limits();

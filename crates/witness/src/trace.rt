@@ -1,5 +1,5 @@
 // A path link's wires: backward from the end along the row of the start, by wires that complete an entry exactly.
-ghost use Rattle.std.specs.Prelude.{◌≡◌, ◌+◌, ◌*◌, ◌<◌, ◌≤◌, length, get_or};
+ghost use Rattle.std.specs.Prelude.{◌≡◌, ◌+◌, ◌*◌, ◌<◌, ◌≤◌, get_or};
 ghost use Rattle.sheet.specs.Core.{wires_in, registers_in, shape_of};
 ghost use Rattle.sheet.specs.Rules.{Told};
 ghost use Rattle.tables.specs.Back.{Completed};
@@ -10,7 +10,7 @@ use solver::Given;
 
 // Where a wire out of block f starts in row u of one of the path table's lists: the bare start block has its own number.
 fn base(table: &[u32; 4096], n: usize, u: usize, f: usize, own: u32) -> u32
-    requires { (length table.now ≡ 4096) × (n ≤ 64) × (u < n) × (f < n) }
+    requires { (n ≤ 64) × (u < n) × (f < n) }
     ensures { Based own u f (get_or table.now (u * n + f) 0) result }
 {
     if f == u { own } else { table[u * n + f] }
@@ -73,21 +73,20 @@ pub fn trace<'a>(
     v: usize,
     wires: &'a mut [u16; 64],
 ) -> &'a [u16]
-    requires { Tabled sheet.bytes.now given.now × (u < given.now.n) × (v < given.now.n) × (registers_at given.now u v < 4294967295) × (length wires.old ≡ 64) }
+    requires { Tabled sheet.bytes.now given.now × (u < given.now.n) × (v < given.now.n) × (registers_at given.now u v < 4294967295) }
     ensures { Traced (shape_of sheet.entry.bytes.now) (registers_in sheet.entry.bytes.now) u v (registers_at given.now u v) (delay_at given.now u v) result.now }
 {
     if bare(sheet, given, u, v) {
         return &wires[64..];
     }
     let mut b = v;
-    let mut at = 64usize;
-    loop {
+    for at in (0..64).rev() {
         let j = last_wire(sheet, given, u, b);
-        at -= 1;
         wires[at] = j as u16;
         b = sheet.wire(j).from;
         if b == u {
             return &wires[at..];
         }
     }
+    unreachable!()
 }

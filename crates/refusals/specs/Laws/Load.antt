@@ -30,6 +30,13 @@ pub record Long (g : Given) : Type 0 where
   pub registers_long : length g.registers ≡ 4096
   pub delays_long : length g.delays ≡ 4096
 
+-- and those of the wires, before they are loaded
+pub record Wires (g : Given) : Type 0 where
+  pub from_long : length g.from ≡ 256
+  pub to_long : length g.to ≡ 256
+  pub wires_long : length g.wires ≡ 256
+  pub ceilings_long : length g.ceilings ≡ 256
+
 -- ---- lists that stand for a sheet are small enough for code
 module _ {s : List ℕ} {g : Given} (S : Stands s g) where
   few_registers : (a b W D : ℕ) → Entry (shape_of s) (registers_in s) a b W D → 0 < D → W ≤ 150000
@@ -77,7 +84,7 @@ long_is f n k l₀ l e h = ap length e ∙ length_filled f n l₀ ∙ h
 still : length {A = ℕ} (replicate 64 32768) ≡ 64
 still = length-replicate {A = ℕ} 64 32768
 
-module _ (s : List ℕ) (S : SoundSheet s) (g : Given) (n_is : g.n ≡ blocks_in s) (m_is : g.m ≡ wires_in s) (R : Unused g) where
+module _ (s : List ℕ) (S : SoundSheet s) (g : Given) (n_is : g.n ≡ blocks_in s) (m_is : g.m ≡ wires_in s) (R : Unused g) (L : Wires g) where
   few_blocks : g.n ≤ 64
   few_blocks = omega (arith, S.formed.framed.few_blocks)
 
@@ -107,10 +114,10 @@ module _ (s : List ℕ) (S : SoundSheet s) (g : Given) (n_is : g.n ≡ blocks_in
       m_is = m_is;
       lower_is = λ b h. entry_is _ g.n _ lower lower_is (omega (arith, few_blocks, still)) b (omega arith);
       upper_is = λ b h. entry_is _ g.n _ upper upper_is (omega (arith, few_blocks, still)) b (omega arith);
-      from_is = λ j h. entry_is _ g.m _ from from_is (omega (arith, few_wires, R.from_long)) j (omega arith);
-      to_is = λ j h. entry_is _ g.m _ to to_is (omega (arith, few_wires, R.to_long)) j (omega arith);
-      wires_is = λ j h. entry_is _ g.m _ wires wires_are (omega (arith, few_wires, R.wires_long)) j (omega arith);
-      ceilings_is = λ j h. omega (arith, entry_is _ g.m _ ceilings ceilings_are (omega (arith, few_wires, R.ceilings_long)) j (omega arith), few j h);
+      from_is = λ j h. entry_is _ g.m _ from from_is (omega (arith, few_wires, L.from_long)) j (omega arith);
+      to_is = λ j h. entry_is _ g.m _ to to_is (omega (arith, few_wires, L.to_long)) j (omega arith);
+      wires_is = λ j h. entry_is _ g.m _ wires wires_are (omega (arith, few_wires, L.wires_long)) j (omega arith);
+      ceilings_is = λ j h. omega (arith, entry_is _ g.m _ ceilings ceilings_are (omega (arith, few_wires, L.ceilings_long)) j (omega arith), few j h);
       table = λ x. absurd (omega (arith, x.slow, quick.all (x.a * g.n + x.b)));
     }
 
@@ -118,10 +125,10 @@ module _ (s : List ℕ) (S : SoundSheet s) (g : Given) (n_is : g.n ≡ blocks_in
     loaded_long = record {
       lower_long = long_is _ g.n 64 _ lower lower_is still;
       upper_long = long_is _ g.n 64 _ upper upper_is still;
-      from_long = long_is _ g.m 256 _ from from_is R.from_long;
-      to_long = long_is _ g.m 256 _ to to_is R.to_long;
-      wires_long = long_is _ g.m 256 _ wires wires_are R.wires_long;
-      ceilings_long = long_is _ g.m 256 _ ceilings ceilings_are R.ceilings_long;
+      from_long = long_is _ g.m 256 _ from from_is L.from_long;
+      to_long = long_is _ g.m 256 _ to to_is L.to_long;
+      wires_long = long_is _ g.m 256 _ wires wires_are L.wires_long;
+      ceilings_long = long_is _ g.m 256 _ ceilings ceilings_are L.ceilings_long;
       registers_long = ap length R.registers_are ∙ length-replicate {A = ℕ} 4096 0;
       delays_long = ap length R.delays_are ∙ length-replicate {A = ℕ} 4096 0;
     }

@@ -2,8 +2,5 @@
 use Rattle.witness.specs.Trace.{Tracing}
 use Rattle.witness.proofs.trace.trace.Given as goal
 
-abbrev pub invariant-loop-b : goal.invariant-loop-b
-invariant-loop-b l = Tracing l.sheet.bytes.now l.given l.u l.v l.b l.at l.wires
-
-abbrev pub decreases-loop-b : goal.decreases-loop-b
-decreases-loop-b l = l.at
+abbrev pub invariant-loop-at : goal.invariant-loop-at
+invariant-loop-at l = Tracing l.sheet.bytes.now l.given l.u l.v l.b l.at l.wires
