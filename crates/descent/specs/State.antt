@@ -26,7 +26,7 @@ pub record Stop (keys lower upper : List ℕ) (c r : ℕ) : Type 0 where
   pub floor : Floor keys lower upper r
 
 -- ---- testing: some of the first k blocks is such that Yes, or all are such that No
-pub record Told (Yes No : ℕ → Type 0) (k : ℕ) (some : Bool) : Type 0 where
+pub record SomeBlock (Yes No : ℕ → Type 0) (k : ℕ) (some : Bool) : Type 0 where
   pub none : some ≡ false → (u : ℕ) → u < k → No u
   pub one : some ≡ true → (u : ℕ) × (u < k) × Yes u
 
@@ -52,7 +52,7 @@ Stays keys c v ev e u = get_or e u 0 < bar keys c v ev u
 
 -- whether column v lowers one of the first k blocks
 abbrev pub Falls : List ℕ → ℕ → ℕ → ℕ → List ℕ → ℕ → Bool → Type 0
-Falls keys c v ev e = Told (λ u. bar keys c v ev u ≤ get_or e u 0) (λ u. Stays keys c v ev e u)
+Falls keys c v ev e = SomeBlock (λ u. bar keys c v ev u ≤ get_or e u 0) (λ u. Stays keys c v ev e u)
 
 -- block u was lowered by column v, or stayed
 abbrev pub Lowered : List ℕ → ℕ → ℕ → ℕ → List ℕ → List ℕ → ℕ → Type 0
@@ -68,7 +68,7 @@ pub record Pushed (keys : List ℕ) (c v ev : ℕ) (e e' : List ℕ) (k : ℕ) :
 
 -- whether one of the first k blocks stands below its lower limit
 abbrev pub Under : List ℕ → List ℕ → ℕ → Bool → Type 0
-Under lower e = Told (λ u. get_or e u 0 < get_or lower u 0) (λ u. get_or lower u 0 ≤ get_or e u 0)
+Under lower e = SomeBlock (λ u. get_or e u 0 < get_or lower u 0) (λ u. get_or lower u 0 ≤ get_or e u 0)
 
 -- ---- rounds: a block that stands where it was last seen has all the rules of its column kept
 pub record Going (keys lower upper : List ℕ) (c : ℕ) (e seen : List ℕ) : Type 0 where
@@ -98,4 +98,4 @@ pub record Rounded (keys lower upper : List ℕ) (c k : ℕ) (e seen e' seen' : 
 
 -- whether one of the first k blocks has moved since it was last seen
 abbrev pub Left : List ℕ → List ℕ → ℕ → Bool → Type 0
-Left e seen = Told (λ w. get_or e w 0 ≡ get_or seen w 0 → ⊥) (λ w. get_or e w 0 ≡ get_or seen w 0)
+Left e seen = SomeBlock (λ w. get_or e w 0 ≡ get_or seen w 0 → ⊥) (λ w. get_or e w 0 ≡ get_or seen w 0)
