@@ -2,7 +2,7 @@
 ghost use Rattle.std.specs.Prelude.{ℕ, ◌<◌, ◌≤◌, OnOk, IfErr};
 ghost use Rattle.descent.specs.State.{State, AtRest, Going, Stepped, Rounded, Left, Stop};
 
-use crate::chain::{sunk_floor, test_chain};
+use crate::chain::{no_lags_once_sunk, test_chain};
 use crate::column::{Column, under};
 use crate::rules::{NoLags, Rules};
 
@@ -50,7 +50,7 @@ impl Descent {
         }
         column.push(&mut self.lags, &mut self.links);
         if under(&self.lags, rules.lower) {
-            return sunk_floor(rules, c, v, &self.lags, &self.links);
+            return Err(no_lags_once_sunk(rules, c, v, &self.lags, &self.links));
         }
         test_chain(rules, c, v, limit, &self.links)
     }
