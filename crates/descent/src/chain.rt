@@ -63,7 +63,7 @@ pub fn test_chain(
     links: &[u32; 64],
 ) -> Result<(), NoLags>
     requires { (c < 1048576) × (start < 64) × (limit ≤ 64) }
-    ensures { IfErr result (λ n. Stop rules.now.keys.now rules.now.lower.now rules.now.upper.now c n.below) }
+    ensures { IfErr result (λ n. Stop rules.now c n.below) }
 {
     let chain = follow(rules.keys, c, start, limit, links);
     let broken = NoLags { below: chain.until };
@@ -93,8 +93,8 @@ pub fn no_lags_once_sunk(
     lags: &[u32; 64],
     links: &[u32; 64],
 ) -> NoLags
-    requires { Sinking rules.now.keys.now rules.now.lower.now rules.now.upper.now c lags.now × (c < 1048576) × (v < 64) }
-    ensures { Stop rules.now.keys.now rules.now.lower.now rules.now.upper.now c result.below }
+    requires { Sinking rules.now c lags.now × (c < 1048576) × (v < 64) }
+    ensures { Stop rules.now c result.below }
 {
     if let Err(broken) = test_chain(rules, c, v, 64, links) {
         return broken;
