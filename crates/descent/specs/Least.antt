@@ -2,11 +2,12 @@
 use Rattle.std.specs.Prelude.{◌≡◌, List, ℕ, ◌+◌, ◌*◌, ◌≤◌, ◌<◌, length, get_or}
 use Rattle.descent.specs.System.{key, Floor}
 use Rattle.descent.specs.State.{AtRest}
+use Rattle.descent.specs.declared.rules.Rules.{Rules}
 
 -- at rest at r, which is the least period that has lags, and no longer than c
-pub record LeastRest (keys lower upper : List ℕ) (c r : ℕ) (e : List ℕ) : Type 0 where
-  pub rest : AtRest keys lower upper r e
-  pub floor : Floor keys lower upper r
+pub record LeastRest (g : Rules) (c r : ℕ) (e : List ℕ) : Type 0 where
+  pub rest : AtRest g r e
+  pub floor : Floor g.keys.now g.lower.now g.upper.now r
   pub within : r ≤ c
 
 -- the lags keep every rule at period c

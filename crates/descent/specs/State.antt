@@ -2,31 +2,32 @@
 use Rattle.std.specs.Prelude.{◌≡◌, ◌⊎◌, Bool, true, false, List, ℕ, ◌+◌, ◌≤◌, ◌<◌, length, get_or}
 use Rattle.sheet.specs.Laws.Sum.{sum}
 use Rattle.descent.specs.System.{slack, Fit, Keeps, Floor}
+use Rattle.descent.specs.declared.rules.Rules.{Rules}
 
 -- all lags that keep the rules at period c lie at or below e
-abbrev pub Below : List ℕ → List ℕ → List ℕ → ℕ → List ℕ → Type 0
-Below keys lower upper c e = (s : ℕ → ℕ) → Keeps keys lower upper c s → (b : ℕ) → b < 64 → s b ≤ get_or e b 0
+abbrev pub Below : Rules → ℕ → List ℕ → Type 0
+Below g c e = (s : ℕ → ℕ) → Keeps g.keys.now g.lower.now g.upper.now c s → (b : ℕ) → b < 64 → s b ≤ get_or e b 0
 
 -- e holds each block's lag, on its way down from the upper limits
-pub record State (keys lower upper : List ℕ) (c : ℕ) (e : List ℕ) : Type 0 where
-  pub fit : Fit keys lower upper
+pub record State (g : Rules) (c : ℕ) (e : List ℕ) : Type 0 where
+  pub fit : Fit g.keys.now g.lower.now g.upper.now
   pub e_long : length e ≡ 64
-  pub most : Below keys lower upper c e
-  pub low : (b : ℕ) → b < 64 → get_or lower b 0 ≤ get_or e b 0
-  pub high : (b : ℕ) → b < 64 → get_or e b 0 ≤ get_or upper b 0
+  pub most : Below g c e
+  pub low : (b : ℕ) → b < 64 → get_or g.lower.now b 0 ≤ get_or e b 0
+  pub high : (b : ℕ) → b < 64 → get_or e b 0 ≤ get_or g.upper.now b 0
 
 -- lags at rest: they keep all rules at period c, and are the largest that do
-pub record AtRest (keys lower upper : List ℕ) (c : ℕ) (e : List ℕ) : Type 0 where
-  pub state : State keys lower upper c e
-  pub keeps : Keeps keys lower upper c (λ b. get_or e b 0)
+pub record AtRest (g : Rules) (c : ℕ) (e : List ℕ) : Type 0 where
+  pub state : State g c e
+  pub keeps : Keeps g.keys.now g.lower.now g.upper.now c (λ b. get_or e b 0)
 
 -- no lags exist below period r, which is beyond c
-pub record Stop (keys lower upper : List ℕ) (c r : ℕ) : Type 0 where
+pub record Stop (g : Rules) (c r : ℕ) : Type 0 where
   pub beyond : c < r
-  pub floor : Floor keys lower upper r
+  pub floor : Floor g.keys.now g.lower.now g.upper.now r
 
 -- ---- testing: some of the first k blocks is such that Yes, or all are such that No
-pub record Told (Yes No : ℕ → Type 0) (k : ℕ) (some : Bool) : Type 0 where
+pub record SomeBlock (Yes No : ℕ → Type 0) (k : ℕ) (some : Bool) : Type 0 where
   pub none : some ≡ false → (u : ℕ) → u < k → No u
   pub one : some ≡ true → (u : ℕ) × (u < k) × Yes u
 
@@ -52,7 +53,7 @@ Stays keys c v ev e u = get_or e u 0 < bar keys c v ev u
 
 -- whether column v lowers one of the first k blocks
 abbrev pub Falls : List ℕ → ℕ → ℕ → ℕ → List ℕ → ℕ → Bool → Type 0
-Falls keys c v ev e = Told (λ u. bar keys c v ev u ≤ get_or e u 0) (λ u. Stays keys c v ev e u)
+Falls keys c v ev e = SomeBlock (λ u. bar keys c v ev u ≤ get_or e u 0) (λ u. Stays keys c v ev e u)
 
 -- block u was lowered by column v, or stayed
 abbrev pub Lowered : List ℕ → ℕ → ℕ → ℕ → List ℕ → List ℕ → ℕ → Type 0
@@ -68,15 +69,15 @@ pub record Pushed (keys : List ℕ) (c v ev : ℕ) (e e' : List ℕ) (k : ℕ) :
 
 -- whether one of the first k blocks stands below its lower limit
 abbrev pub Under : List ℕ → List ℕ → ℕ → Bool → Type 0
-Under lower e = Told (λ u. get_or e u 0 < get_or lower u 0) (λ u. get_or lower u 0 ≤ get_or e u 0)
+Under lower e = SomeBlock (λ u. get_or e u 0 < get_or lower u 0) (λ u. get_or lower u 0 ≤ get_or e u 0)
 
 -- ---- rounds: a block that stands where it was last seen has all the rules of its column kept
-pub record Going (keys lower upper : List ℕ) (c : ℕ) (e seen : List ℕ) : Type 0 where
-  pub state : State keys lower upper c e
+pub record Going (g : Rules) (c : ℕ) (e seen : List ℕ) : Type 0 where
+  pub state : State g c e
   pub c_small : c < 1048576
   pub seen_long : length seen ≡ 64
   pub above : (w : ℕ) → w < 64 → get_or e w 0 ≤ get_or seen w 0
-  pub quiet : (w : ℕ) → w < 64 → get_or e w 0 ≡ get_or seen w 0 → (u : ℕ) → u < 64 → Stays keys c w (get_or e w 0) e u
+  pub quiet : (w : ℕ) → w < 64 → get_or e w 0 ≡ get_or seen w 0 → (u : ℕ) → u < 64 → Stays g.keys.now c w (get_or e w 0) e u
 
 -- the lags and where they were last seen: this falls with every block taken
 abbrev pub work : List ℕ → List ℕ → ℕ
@@ -87,15 +88,15 @@ pub record Worked (e seen e' seen' : List ℕ) (Idle : Type 0) : Type 0 where
   pub done : (work e' seen' < work e seen) ⊎ ((e' ≡ e) × (seen' ≡ seen) × Idle)
 
 -- block v was tried
-pub record Stepped (keys lower upper : List ℕ) (c v : ℕ) (e seen e' seen' : List ℕ) : Type 0 where
-  pub on : Going keys lower upper c e' seen'
+pub record Stepped (g : Rules) (c v : ℕ) (e seen e' seen' : List ℕ) : Type 0 where
+  pub on : Going g c e' seen'
   pub less : Worked e seen e' seen' (get_or e v 0 ≡ get_or seen v 0)
 
 -- the same of the first k blocks
-pub record Rounded (keys lower upper : List ℕ) (c k : ℕ) (e seen e' seen' : List ℕ) : Type 0 where
-  pub on : Going keys lower upper c e' seen'
+pub record Rounded (g : Rules) (c k : ℕ) (e seen e' seen' : List ℕ) : Type 0 where
+  pub on : Going g c e' seen'
   pub less : Worked e seen e' seen' ((w : ℕ) → w < k → get_or e w 0 ≡ get_or seen w 0)
 
 -- whether one of the first k blocks has moved since it was last seen
 abbrev pub Left : List ℕ → List ℕ → ℕ → Bool → Type 0
-Left e seen = Told (λ w. get_or e w 0 ≡ get_or seen w 0 → ⊥) (λ w. get_or e w 0 ≡ get_or seen w 0)
+Left e seen = SomeBlock (λ w. get_or e w 0 ≡ get_or seen w 0 → ⊥) (λ w. get_or e w 0 ≡ get_or seen w 0)

@@ -1,7 +1,7 @@
 // Contradictions: rules that follow each other along links and leave no lags, and up to which period they do.
 // A link names the block whose rule lowered a block last, or none (64 and above). Links are guesses at where to look:
 // what is said of a chain is computed from its rules.
-ghost use Rattle.std.specs.Prelude.{◌≡◌, ◌≤◌, ◌<◌, IfErr, IsErrAnd};
+ghost use Rattle.std.specs.Prelude.{◌≡◌, ◌≤◌, ◌<◌, IfErr, IfSome};
 ghost use Rattle.descent.specs.State.{Table, Stop};
 ghost use Rattle.descent.specs.Chain.{Chained, Eased, Sinking};
 
@@ -63,7 +63,7 @@ pub fn test_chain(
     links: &[u32; 64],
 ) -> Result<(), NoLags>
     requires { (c < 1048576) × (start < 64) × (limit ≤ 64) }
-    ensures { IfErr result (λ n. Stop rules.now.keys.now rules.now.lower.now rules.now.upper.now c n.below) }
+    ensures { IfErr result (λ n. Stop rules.now c n.below) }
 {
     let chain = follow(rules.keys, c, start, limit, links);
     let broken = NoLags { below: chain.until };
@@ -78,27 +78,31 @@ pub fn test_chain(
 }
 
 // The first block below its lower limit.
-fn sunk(lags: &[u32; 64], lower: &[u32; 64]) -> usize
-    ensures { result < 64 }
+fn sunk(lags: &[u32; 64], lower: &[u32; 64]) -> Option<usize>
+    ensures { IfSome result (λ b. b < 64) }
 {
-    lags.iter()
-        .zip(lower)
-        .position(|(lag, least)| lag < least)
-        .unwrap_or(63)
+    lags.iter().zip(lower).position(|(lag, least)| lag < least)
 }
 
-// Fails, since lags that column v lowered have sunk below their lower limits: there are none at c, and what shows it may last.
-pub fn sunk_floor(
+// Up to which period there are none, where lags that column v lowered have sunk below their lower limits: as far as the
+// chain from v shows, or that from the first block that has sunk, or at c alone.
+pub fn no_lags_once_sunk(
     rules: &Rules,
     c: u32,
     v: usize,
     lags: &[u32; 64],
     links: &[u32; 64],
-) -> Result<(), NoLags>
-    requires { Sinking rules.now.keys.now rules.now.lower.now rules.now.upper.now c lags.now × (c < 1048576) × (v < 64) }
-    ensures { IsErrAnd result (λ n. Stop rules.now.keys.now rules.now.lower.now rules.now.upper.now c n.below) }
+) -> NoLags
+    requires { Sinking rules.now c lags.now × (c < 1048576) × (v < 64) }
+    ensures { Stop rules.now c result.below }
 {
-    test_chain(rules, c, v, 64, links)?;
-    test_chain(rules, c, sunk(lags, rules.lower), 64, links)?;
-    Err(NoLags { below: c + 1 })
+    if let Err(broken) = test_chain(rules, c, v, 64, links) {
+        return broken;
+    }
+    if let Some(first) = sunk(lags, rules.lower) {
+        if let Err(broken) = test_chain(rules, c, first, 64, links) {
+            return broken;
+        }
+    }
+    NoLags { below: c + 1 }
 }

@@ -54,9 +54,9 @@ fn back(gap: u32, failed: u32) -> u32
 // From lags at rest to the least period that has lags, and the largest lags at it.
 pub fn least(rules: &Rules, descent: &mut Descent) -> u32
     ghost c: { ℕ }
-    requires rest { AtRest rules.now.keys.now rules.now.lower.now rules.now.upper.now c descent.old.lags }
+    requires rest { AtRest rules.now c descent.old.lags }
     requires short { c < 1048576 }
-    ensures { LeastRest rules.now.keys.now rules.now.lower.now rules.now.upper.now c result descent.new.lags }
+    ensures { LeastRest rules.now c result descent.new.lags }
 {
     let mut high = reach(rules.keys, &descent.lags);
     let mut low = 0;

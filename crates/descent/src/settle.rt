@@ -2,7 +2,7 @@
 ghost use Rattle.std.specs.Prelude.{ℕ, ◌<◌, ◌≤◌, OnOk, IfErr};
 ghost use Rattle.descent.specs.State.{State, AtRest, Going, Stepped, Rounded, Left, Stop};
 
-use crate::chain::{sunk_floor, test_chain};
+use crate::chain::{no_lags_once_sunk, test_chain};
 use crate::column::{Column, under};
 use crate::rules::{NoLags, Rules};
 
@@ -19,7 +19,7 @@ pub struct Descent {
 impl Descent {
     // All blocks at their upper limits.
     pub fn start(rules: &Rules) -> Descent
-        ensures { (c : ℕ) → State rules.now.keys.now rules.now.lower.now rules.now.upper.now c result.lags }
+        ensures { (c : ℕ) → State rules.now c result.lags }
     {
         Descent {
             lags: *rules.upper,
@@ -30,9 +30,9 @@ impl Descent {
 
     // Takes block v's column where v has moved since it was last seen.
     fn step(&mut self, rules: &Rules, c: u32, v: usize, limit: usize) -> Result<(), NoLags>
-        requires { Going rules.now.keys.now rules.now.lower.now rules.now.upper.now c self.old.lags self.old.seen × (v < 64) × (limit ≤ 64) }
-        ensures on { OnOk result (Stepped rules.now.keys.now rules.now.lower.now rules.now.upper.now c v self.old.lags self.old.seen self.new.lags self.new.seen) }
-        ensures stop { IfErr result (λ n. Stop rules.now.keys.now rules.now.lower.now rules.now.upper.now c n.below) }
+        requires { Going rules.now c self.old.lags self.old.seen × (v < 64) × (limit ≤ 64) }
+        ensures on { OnOk result (Stepped rules.now c v self.old.lags self.old.seen self.new.lags self.new.seen) }
+        ensures stop { IfErr result (λ n. Stop rules.now c n.below) }
     {
         let lag = self.lags[v];
         if self.seen[v] == lag {
@@ -50,16 +50,16 @@ impl Descent {
         }
         column.push(&mut self.lags, &mut self.links);
         if under(&self.lags, rules.lower) {
-            return sunk_floor(rules, c, v, &self.lags, &self.links);
+            return Err(no_lags_once_sunk(rules, c, v, &self.lags, &self.links));
         }
         test_chain(rules, c, v, limit, &self.links)
     }
 
     // One round over all blocks.
     fn round(&mut self, rules: &Rules, c: u32, limit: usize) -> Result<(), NoLags>
-        requires { Going rules.now.keys.now rules.now.lower.now rules.now.upper.now c self.old.lags self.old.seen × (limit ≤ 64) }
-        ensures on { OnOk result (Rounded rules.now.keys.now rules.now.lower.now rules.now.upper.now c 64 self.old.lags self.old.seen self.new.lags self.new.seen) }
-        ensures stop { IfErr result (λ n. Stop rules.now.keys.now rules.now.lower.now rules.now.upper.now c n.below) }
+        requires { Going rules.now c self.old.lags self.old.seen × (limit ≤ 64) }
+        ensures on { OnOk result (Rounded rules.now c 64 self.old.lags self.old.seen self.new.lags self.new.seen) }
+        ensures stop { IfErr result (λ n. Stop rules.now c n.below) }
     {
         for v in 0..64 {
             self.step(rules, c, v, limit)?;
@@ -81,10 +81,10 @@ impl Descent {
     // Down to the largest lags at period c, or there are none.
     // The first round looks a few links back for a contradiction, later ones all the way: most are short, or come late.
     pub fn settle(&mut self, rules: &Rules, c: u32) -> Result<(), NoLags>
-        requires state { State rules.now.keys.now rules.now.lower.now rules.now.upper.now c self.old.lags }
+        requires state { State rules.now c self.old.lags }
         requires short { c < 1048576 }
-        ensures rest { OnOk result (AtRest rules.now.keys.now rules.now.lower.now rules.now.upper.now c self.new.lags) }
-        ensures stop { IfErr result (λ n. Stop rules.now.keys.now rules.now.lower.now rules.now.upper.now c n.below) }
+        ensures rest { OnOk result (AtRest rules.now c self.new.lags) }
+        ensures stop { IfErr result (λ n. Stop rules.now c n.below) }
     {
         self.seen = [40000; 64];
         let mut limit = 4;

@@ -8,6 +8,7 @@ use Rattle.sheet.specs.Core.{core_of}
 use Rattle.descent.specs.System.{Keeps}
 use Rattle.descent.specs.State.{AtRest}
 use Rattle.descent.specs.Least.{LeastRest}
+use Rattle.descent.specs.declared.rules.Rules.{Rules}
 use Rattle.promises.specs.Lags.{Largest, Least}
 use Rattle.refusals.specs.Solving.{Hopeless, after_frame_of}
 use Rattle.refusals.specs.declared.Aim.{Aim}
@@ -15,11 +16,11 @@ use Rattle.refusals.specs.declared.Aim.TheVariants as A
 use Rattle.periods.specs.declared.quick.Found.{Found}
 
 -- on a table of keys. Periods from 1,048,575 on ask for no more than that one does: no path without a register is longer.
-abbrev pub Sought : List ℕ → List ℕ → List ℕ → Aim → Option Found → Type 0
-Sought keys lower upper (A.At c) (Some f) = (f.value ≡ 0) × AtRest keys lower upper (min c 1048575) f.lags
-Sought keys lower upper A.Least (Some f) = LeastRest keys lower upper 1048575 f.value f.lags
-Sought keys lower upper (A.At c) None = Unit
-Sought keys lower upper A.Least None = (x : ℕ → ℕ) → Keeps keys lower upper 1048575 x → ⊥
+abbrev pub Sought : Rules → Aim → Option Found → Type 0
+Sought g (A.At c) (Some f) = (f.value ≡ 0) × AtRest g (min c 1048575) f.lags
+Sought g A.Least (Some f) = LeastRest g 1048575 f.value f.lags
+Sought g (A.At c) None = Unit
+Sought g A.Least None = (x : ℕ → ℕ) → Keeps g.keys.now g.lower.now g.upper.now 1048575 x → ⊥
 
 -- lags that can be written out
 pub record Lags (e : List ℕ) : Type 0 where

@@ -21,7 +21,7 @@ const LONGEST: u32 = 1048575;
 
 // From the upper limits down to the lags that are asked for.
 fn sought(rules: &Rules, aim: Aim) -> Option<Found>
-    ensures { Sought rules.now.keys.now rules.now.lower.now rules.now.upper.now aim result }
+    ensures { Sought rules.now aim result }
 {
     let mut descent = Descent::start(rules);
     let value = match aim {

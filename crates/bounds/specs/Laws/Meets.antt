@@ -18,6 +18,7 @@ use Rattle.moves.specs.Laws.Lattice.{value, moved_to}
 use Rattle.moves.specs.Laws.Written as L
 use Rattle.descent.specs.System.{Fit, Keeps, Floor}
 use Rattle.descent.specs.State.{AtRest}
+use Rattle.descent.specs.declared.rules.Rules.{Rules}
 use Rattle.bounds.specs.Ruled.{Key, loose, path, ceiling, Ruled, padded}
 use Rattle.bounds.specs.Laws.Slow.{slow, free_quick}
 
@@ -170,18 +171,17 @@ module _ {s keys lower upper : List ℕ} (R : Ruled s keys lower upper) where
   }
 
 -- ---- what the descent finds
-module _ {s keys lower upper : List ℕ} (R : Ruled s keys lower upper) {c : ℕ} (short : c < 1048576) where
-  -- lags at rest are the largest that meet the period
-  module _ {e : List ℕ} (A : AtRest keys lower upper c e) where
-    pub rest_meets : Meets (core_of s) c (λ b. lag_of (get_or e b 0))
-    rest_meets = keeps_meets R c short (λ b. get_or e b 0) A.keeps
+-- lags at rest are the largest that meet the period
+module _ {s : List ℕ} {g : Rules} (R : Ruled s g.keys.now g.lower.now g.upper.now) {c : ℕ} (short : c < 1048576) {e : List ℕ} (A : AtRest g c e) where
+  pub rest_meets : Meets (core_of s) c (λ b. lag_of (get_or e b 0))
+  rest_meets = keeps_meets R c short (λ b. get_or e b 0) A.keeps
 
-    pub rest_largest : (q : ℕ → ℤ) → Meets (core_of s) c q → (b : ℕ) → b < blocks_in s → q b ≤ℤ lag_of (get_or e b 0)
-    rest_largest q M b h =
-        let k : b < 64 = omega (arith, few R) in
-        parts_le (q b) (lag_of (get_or e b 0))
-        (omega (arith, A.state.most (padded (blocks_in s) q) (meets_keeps R c short q M) b k, lag_parts R c short q M b h, sub_parts (get_or e b 0) 32768))
+  pub rest_largest : (q : ℕ → ℤ) → Meets (core_of s) c q → (b : ℕ) → b < blocks_in s → q b ≤ℤ lag_of (get_or e b 0)
+  rest_largest q M b h =
+      let k : b < 64 = omega (arith, few R) in
+      parts_le (q b) (lag_of (get_or e b 0))
+      (omega (arith, A.state.most (padded (blocks_in s) q) (meets_keeps R c short q M) b k, lag_parts R c short q M b h, sub_parts (get_or e b 0) 32768))
 
-  -- no lags meet a period below the floor
-  pub floor_none : {r : ℕ} → Floor keys lower upper r → c < r → (q : ℕ → ℤ) → Meets (core_of s) c q → ⊥
-  floor_none F h q M = F c (padded (blocks_in s) q) h (meets_keeps R c short q M)
+-- no lags meet a period below the floor
+pub floor_none : {s keys lower upper : List ℕ} → Ruled s keys lower upper → {c : ℕ} → c < 1048576 → {r : ℕ} → Floor keys lower upper r → c < r → (q : ℕ → ℤ) → Meets (core_of s) c q → ⊥
+floor_none {s} R {c} short F h q M = F c (padded (blocks_in s) q) h (meets_keeps R c short q M)

@@ -5,6 +5,7 @@ use Rattle.std.proofs.Common.{arith, below_more}
 use Rattle.std.proofs.Math.Decide.{dec_le}
 use Rattle.descent.specs.System.{key, Floor}
 use Rattle.descent.specs.State.{AtRest}
+use Rattle.descent.specs.declared.rules.Rules.{Rules}
 use Rattle.descent.specs.Laws.System.{state_stays}
 use Rattle.descent.specs.Least.{Kept, Lags, Resting, Reach, Scaled, Near, Nearing, Nears}
 
@@ -43,14 +44,14 @@ reach_end {keys} {e} {k} {least} {r} M le q = record {
     short d K (no h) = omega (arith, M.most (1048575 - d) (omega arith) (λ a b ha hb. omega (arith, K a b ha hb)))
 
 -- the search has come to the periods from `low` on, and to lags at rest at `high`
-pub record Searched (keys lower upper : List ℕ) (c low high : ℕ) (e : List ℕ) : Type 0 where
-  pub rest : AtRest keys lower upper high e
-  pub floor : Floor keys lower upper low
+pub record Searched (g : Rules) (c low high : ℕ) (e : List ℕ) : Type 0 where
+  pub rest : AtRest g high e
+  pub floor : Floor g.keys.now g.lower.now g.upper.now low
   pub within : high ≤ c
 
 -- lags at rest below are at rest at the period that they reach
-pub search_down : {keys lower upper : List ℕ} {c low high middle h : ℕ} {e e' : List ℕ} → Searched keys lower upper c low high e
-    → AtRest keys lower upper middle e' → middle ≤ high → Reach keys e' h → Searched keys lower upper c low h e'
+pub search_down : {g : Rules} {c low high middle h : ℕ} {e e' : List ℕ} → Searched g c low high e
+    → AtRest g middle e' → middle ≤ high → Reach g.keys.now e' h → Searched g c low h e'
 search_down {middle = middle} H A le R =
     let S = A.state in
     let w : _ ≤ middle = R.least middle A.keeps.rule in

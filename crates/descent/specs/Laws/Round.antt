@@ -8,11 +8,12 @@ use Rattle.sheet.specs.Laws.Sum.{sum, sum_set}
 use Rattle.descent.specs.State.{State, IsColumn, Falls, Stays, Pushed, Under, Going, Stepped}
 use Rattle.descent.specs.Chain.{Sinking}
 use Rattle.descent.specs.declared.rules.NoLags.{NoLags}
+use Rattle.descent.specs.declared.rules.Rules.{Rules}
 use Rattle.descent.specs.Laws.Push.{no_rise, pushed_below, pushed_state, own_kept, still_kept}
 
-module _ {keys lower upper : List ℕ} {c : ℕ} {e seen : List ℕ} (G : Going keys lower upper c e seen) where
+module _ {g : Rules} {c : ℕ} {e seen : List ℕ} (G : Going g c e seen) where
   -- the column of a block, at its lag
-  pub column : {v : ℕ} → v < 64 → IsColumn keys c v (get_or e v 0)
+  pub column : {v : ℕ} → v < 64 → IsColumn g.keys.now c v (get_or e v 0)
   column {v} h =
       let S = G.state in
       record {
@@ -38,10 +39,10 @@ module _ {keys lower upper : List ℕ} {c : ℕ} {e seen : List ℕ} (G : Going 
       seen_here = get_or-set_same seen v (get_or e v 0) 0 (omega (arith, G.seen_long))
 
       -- lags that have not risen, and rules that hold where lags stand as they did
-      going_on : {e' : List ℕ} → State keys lower upper c e' → ((w : ℕ) → w < 64 → get_or e' w 0 ≤ get_or e w 0)
-          → (get_or e' v 0 ≡ get_or e v 0 → (u : ℕ) → u < 64 → Stays keys c v (get_or e' v 0) e' u)
-          → ((w : ℕ) → w < 64 → get_or e' w 0 ≡ get_or e w 0 → ((u : ℕ) → u < 64 → Stays keys c w (get_or e w 0) e u) → (u : ℕ) → u < 64 → Stays keys c w (get_or e' w 0) e' u)
-          → Going keys lower upper c e' now_seen
+      going_on : {e' : List ℕ} → State g c e' → ((w : ℕ) → w < 64 → get_or e' w 0 ≤ get_or e w 0)
+          → (get_or e' v 0 ≡ get_or e v 0 → (u : ℕ) → u < 64 → Stays g.keys.now c v (get_or e' v 0) e' u)
+          → ((w : ℕ) → w < 64 → get_or e' w 0 ≡ get_or e w 0 → ((u : ℕ) → u < 64 → Stays g.keys.now c w (get_or e w 0) e u) → (u : ℕ) → u < 64 → Stays g.keys.now c w (get_or e' w 0) e' u)
+          → Going g c e' now_seen
       going_on {e'} S' fall own others = record {
         state = S';
         c_small = G.c_small;
@@ -54,40 +55,40 @@ module _ {keys lower upper : List ℕ} {c : ℕ} {e seen : List ℕ} (G : Going 
           over w h (yes q) = rw q (omega (arith, fall v hv, seen_here))
           over w h (no n) = omega (arith, fall w h, seen_same w n, G.above w h)
 
-          at : (w : ℕ) → w < 64 → Dec (w ≡ v) → get_or e' w 0 ≡ get_or now_seen w 0 → (u : ℕ) → u < 64 → Stays keys c w (get_or e' w 0) e' u
+          at : (w : ℕ) → w < 64 → Dec (w ≡ v) → get_or e' w 0 ≡ get_or now_seen w 0 → (u : ℕ) → u < 64 → Stays g.keys.now c w (get_or e' w 0) e' u
           at w h (yes q) t = rw q (own (rw q at t ∙ seen_here))
           at w h (no n) t =
               let same : get_or e' w 0 ≡ get_or e w 0 = omega (arith, fall w h, seen_same w n, G.above w h, t) in
               others w h same (G.quiet w h (sym same ∙ t ∙ seen_same w n))
 
       -- column v lowers nothing
-      pub step_still : {some : Bool} → Falls keys c v (get_or e v 0) e 64 some → some ≡ false → Stepped keys lower upper c v e seen e (set seen v (get_or e v 0))
+      pub step_still : {some : Bool} → Falls g.keys.now c v (get_or e v 0) e 64 some → some ≡ false → Stepped g c v e seen e (set seen v (get_or e v 0))
       step_still C z = record {
         on = going_on G.state (λ w _. omega arith) (λ _. C.none z) (λ w h _ f. f);
         less = record { done = inl (omega (arith, seen_less)) };
       }
 
-      module _ {e' : List ℕ} (P : Pushed keys c v (get_or e v 0) e e' 64) {sunk : Bool} (U : Under lower e' 64 sunk) where
+      module _ {e' : List ℕ} (P : Pushed g.keys.now c v (get_or e v 0) e e' 64) {sunk : Bool} (U : Under g.lower.now e' 64 sunk) where
         -- column v is pushed
-        pub step_pushed : sunk ≡ false → Stepped keys lower upper c v e seen e' (set seen v (get_or e v 0))
+        pub step_pushed : sunk ≡ false → Stepped g c v e seen e' (set seen v (get_or e v 0))
         step_pushed z = record {
           on = going_on (pushed_state G.state hv P (U.none z)) (no_rise G.state hv P) (own_kept G.state hv P) (λ w _. still_kept G.state hv P w);
           less = record { done = inl (omega (arith, seen_less, P.less)) };
         }
 
         -- and a test says what it may
-        pub step_tested : sunk ≡ false → (r : Result (Unit {0}) NoLags) → OnOk r (Stepped keys lower upper c v e seen e' (set seen v (get_or e v 0)))
+        pub step_tested : sunk ≡ false → (r : Result (Unit {0}) NoLags) → OnOk r (Stepped g c v e seen e' (set seen v (get_or e v 0)))
         step_tested z (Ok _) = step_pushed z
         step_tested z (Err _) = tt
 
         -- and a block has sunk
-        pub sinking : sunk ≡ true → Sinking keys lower upper c e'
+        pub sinking : sunk ≡ true → Sinking g c e'
         sinking z =
             let s = U.one z in
             record { fit = G.state.fit; e_long = P.e_long; most = pushed_below G.state hv P; block = s.0; inside = s.1; under = s.2 }
 
 -- ---- the rounds: all blocks count as moved at first, none at the end
-pub going_start : {keys lower upper : List ℕ} {c : ℕ} {e : List ℕ} → State keys lower upper c e → c < 1048576 → Going keys lower upper c e (replicate 64 40000)
+pub going_start : {g : Rules} {c : ℕ} {e : List ℕ} → State g c e → c < 1048576 → Going g c e (replicate 64 40000)
 going_start {e = e} S hc =
     let far : (w : ℕ) → w < 64 → get_or e w 0 < get_or (replicate 64 40000) w 0 = λ w h. omega (arith, get_or-replicate {A = ℕ} 64 w 40000 0 h, S.high w h, S.fit.high w h) in
     record {

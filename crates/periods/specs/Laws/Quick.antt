@@ -13,6 +13,7 @@ use Rattle.moves.specs.Lags.{Meets}
 use Rattle.descent.specs.System.{Keeps}
 use Rattle.descent.specs.State.{AtRest}
 use Rattle.descent.specs.Least.{LeastRest}
+use Rattle.descent.specs.declared.rules.Rules.{Rules}
 use Rattle.bounds.specs.Ruled.{Ruled}
 use Rattle.bounds.specs.Laws.Meets.{meets_keeps, permitted_meets, rest_meets, rest_largest, floor_none}
 use Rattle.promises.specs.Lags.{Largest, Least, NonePermitted}
@@ -25,9 +26,9 @@ use Rattle.refusals.specs.declared.Aim.TheVariants as A
 use Rattle.periods.specs.declared.quick.Found.{Found}
 
 -- ---- what the descent's end says of the sheet
-module _ {s keys lower upper : List ℕ} (R : Ruled s keys lower upper) where
+module _ {s : List ℕ} (g : Rules) (R : Ruled s g.keys.now g.lower.now g.upper.now) where
   -- lags at rest are the largest
-  rest_is : {c : ℕ} {e : List ℕ} → c < 1048576 → AtRest keys lower upper c e → Largest (core_of s) c (λ b. lag_of (get_or e b 0))
+  rest_is : {c : ℕ} {e : List ℕ} → c < 1048576 → AtRest g c e → Largest (core_of s) c (λ b. lag_of (get_or e b 0))
   rest_is h A = record { meets = rest_meets R h A; largest = rest_largest R h A }
 
   -- at a period that is longer than every path, all permitted lags meet it
@@ -37,13 +38,13 @@ module _ {s keys lower upper : List ℕ} (R : Ruled s keys lower upper) where
     largest = λ q M. L.largest q (permitted_meets R 1048575 (omega arith) q M.permitted);
   }
 
-  at_period : (c : ℕ) {e : List ℕ} → Dec (c ≤ 1048575) → AtRest keys lower upper (min c 1048575) e → Largest (core_of s) c (λ b. lag_of (get_or e b 0))
+  at_period : (c : ℕ) {e : List ℕ} → Dec (c ≤ 1048575) → AtRest g (min c 1048575) e → Largest (core_of s) c (λ b. lag_of (get_or e b 0))
   at_period c (yes h) A = rest_is (omega arith) (rw (min-eq_left h) at A)
   at_period c (no h) A =
       let e : min c 1048575 ≡ 1048575 = omega arith in
       longer (omega arith) (rest_is (omega arith) (rw e at A))
 
-  least_is : {p : ℕ} {e : List ℕ} → LeastRest keys lower upper 1048575 p e → Least (core_of s) p
+  least_is : {p : ℕ} {e : List ℕ} → LeastRest g 1048575 p e → Least (core_of s) p
   least_is {p} {e} L = record {
     lags = λ b. lag_of (get_or e b 0);
     met = rest_meets R (omega (arith, L.within)) L.rest;
@@ -54,19 +55,19 @@ module _ {s keys lower upper : List ℕ} (R : Ruled s keys lower upper) where
       go q r M (yes le) = le
       go q r M (no gt) = absurd (floor_none R (omega (arith, L.within)) L.floor (omega arith) r M)
 
-  none_is : ((x : ℕ → ℕ) → Keeps keys lower upper 1048575 x → ⊥) → NonePermitted (core_of s)
+  none_is : ((x : ℕ → ℕ) → Keeps g.keys.now g.lower.now g.upper.now 1048575 x → ⊥) → NonePermitted (core_of s)
   none_is f r P = f _ (meets_keeps R 1048575 (omega arith) r (permitted_meets R 1048575 (omega arith) r P))
 
-  rest_lags : {c : ℕ} {e : List ℕ} → AtRest keys lower upper c e → Lags e
+  rest_lags : {c : ℕ} {e : List ℕ} → AtRest g c e → Lags e
   rest_lags A = record { long = A.state.e_long; small = λ b h. omega (arith, A.state.high b h, A.state.fit.high b h) }
 
-  answers_by : (aim : Aim) (found : Option Found) → Sought keys lower upper aim found → Answers s aim found
+  answers_by : (aim : Aim) (found : Option Found) → Sought g aim found → Answers s aim found
   answers_by (A.At c) (Some f) q = (rest_lags q.1, at_period c (dec_le c 1048575) q.1, q.0)
   answers_by A.Least (Some f) q = (rest_lags q.rest, rest_is (omega (arith, q.within)) q.rest, least_is q)
   answers_by (A.At c) None q = tt
   answers_by A.Least None q = none_is q
 
-  pub quick_is : (aim : Aim) (found : Option Found) → Sought keys lower upper aim found → Quick s aim found
+  pub quick_is : (aim : Aim) (found : Option Found) → Sought g aim found → Quick s aim found
   quick_is aim found q = record { answers = answers_by aim found q }
 
 -- ---- the answer that was found is written out
