@@ -4,7 +4,8 @@ ghost use Rattle.std.specs.Prelude.{◌<◌, ◌≤◌};
 ghost use Rattle.paths.specs.Lists.{Delays};
 ghost use Rattle.keys.specs.Filling.{Blank, Within, Lanes};
 
-// The key of a pair that no path joins: above those of 2001 registers. As a rule it binds no lags, so it needs no test.
+// The key of a pair that no path joins: above those of 2001 registers. A number and no Option: as a rule it binds no lags, so that
+// it needs no test, and an Option's order would put none below every key.
 const FAR: u32 = 2099249152;
 
 // Each of n blocks has itself, and no other pair has a path.

@@ -8,7 +8,8 @@ use crate::lanes::try_wire;
 use crate::order::Direction;
 use crate::ordered::Ordered;
 
-// The version of each block's row, and the one of its start's row that each wire has seen.
+// The version of each block's row, and the one of its start's row that each wire has seen. Versions start at 1: 0, which no row
+// has, needs no test of its own, and an Option would.
 #[derive(Clone, Copy)]
 pub struct Versions {
     pub rows: [usize; 64],

@@ -10,8 +10,8 @@ ghost use Rattle.tables.specs.Keys.{key_w, key_d, row_w, row_d, Whole, Tried, Tr
 
 use crate::costed::Costed;
 
-// The key of a pair that no path joins: 4294967295 registers and no delay. A number and no Option: keys are compared and
-// added to in the innermost loop, and 01's table itself says 4,294,967,295.
+// The key of a pair that no path joins: 4294967295 registers and no delay. A number and no Option: an Option's
+// order would put none below every key, and 01's table itself says 4,294,967,295 registers and 0.
 const FAR: usize = 18446744071562067968;
 
 // Where a wire out of block f starts: at the bare start block u, or at what the row holds for f.
