@@ -2,6 +2,9 @@
 -- Assumes nothing.
 use Rattle.std.specs.Prelude.{◌≡◌, refl, Bool, true, false, ◌||◌, ◌⊎◌, List, [], ◌∷◌, ℕ, ◌+◌, ◌*◌, ◌-◌, ◌≤◌, ◌<◌, max, ltb, length, get_or, set, replicate}
 use Rattle.std.proofs.Common.{sym, ap, ◌∙◌, subst, true≢false, inl, inr, arith, below_more, lt-ltb, le-ltb, length-set, length-append, get_or-set_same, get_or-set_other}
+use Rattle.std.specs.Coded.{le_prop}
+use Rattle.std.proofs.Math.Logic.{∥∥₁_elim}
+use Rattle.std.proofs.Math.Nat.{ℕ_set}
 use Rattle.std.proofs.Math.Decide.{ℕ_discrete, dec_lt}
 use Rattle.std.proofs.lemmas.List.{length-replicate, get_or-replicate, set-get_or}
 use Rattle.sheet.specs.Core.{Shape}
@@ -79,6 +82,16 @@ listed_turned w j k list back p l e = record {
     here = e (k - 1 - q.place) (omega (arith, q.before)) ∙ ap (λ (i : ℕ). get_or list i 0) (omega (arith, q.before)) ∙ q.here;
   };
 }
+
+-- what the truth that some such list is there gives
+pub listed_wire : {w : ℕ → ℕ} {j k : ℕ} {list : List ℕ} → ∥ Listed w j k list ∥₁ → (i : ℕ) → i < k → get_or list i 0 < j
+listed_wire T i h = ∥∥₁_elim T le_prop (λ t. t.wire i h)
+
+pub listed_register : {w : ℕ → ℕ} {j k : ℕ} {list : List ℕ} → ∥ Listed w j k list ∥₁ → (i : ℕ) → i < k → w (get_or list i 0) ≡ 0
+listed_register T i h = ∥∥₁_elim T (ℕ_set _ _) (λ t. t.free i h)
+
+pub listed_few : {w : ℕ → ℕ} {j k : ℕ} {list : List ℕ} → ∥ Listed w j k list ∥₁ → k ≤ j
+listed_few T = ∥∥₁_elim T le_prop (λ t. t.few)
 
 pub turned_next : (k i : ℕ) (list back : List ℕ) → i < length back → ((x : ℕ) → x < i → get_or back x 0 ≡ get_or list (k - 1 - x) 0)
     → (x : ℕ) → x < i + 1 → get_or (set back i (get_or list (k - 1 - i) 0)) x 0 ≡ get_or list (k - 1 - x) 0
@@ -189,12 +202,12 @@ module _ (s : Shape) (w : ℕ → ℕ) where
     trying_next k i j list old now new true p l z e false h = trying_stayed k i j list old now new true p l z e h.0 h.1
     trying_next k i j list old now new false p l z e false h = trying_stayed k i j list old now new false p l z e h.0 h.1
 
-    pub swept : (k i k' : ℕ) (list old new : List ℕ) (rose : Bool) → Listed w s.m i list → k + i ≤ k' → Trying s w k i list old new rose → Swept s w k' old new rose
+    pub swept : (k i k' : ℕ) (list old new : List ℕ) (rose : Bool) → ∥ Listed w s.m i list ∥₁ → k + i ≤ k' → Trying s w k i list old new rose → Swept s w k' old new rose
     swept k i k' list old new rose q l p = record {
       heights = heights_more (k + i) k' new l p.heights;
       keeps = p.keeps;
-      tried = λ j h z. let e = q.all j h z in
-          subst (λ (x : ℕ). offered s w old x ≤ get_or new (s.to x) 0) e.here (p.tried e.place e.before);
+      tried = λ j h z. ∥∥₁_elim q le_prop (λ t. let e = t.all j h z in
+          subst (λ (x : ℕ). offered s w old x ≤ get_or new (s.to x) 0) e.here (p.tried e.place e.before));
       still = p.still;
     }
 

@@ -8,17 +8,19 @@ ghost use Rattle.paths.specs.Wired.{wired, weights};
 
 use crate::wiring::Wiring;
 
-// The numbers of the wires without a register stand at the start of the list. A list with its count, since there is no heap.
+// The numbers of the wires without a register, at the start of the list. A list with its count, since there is no heap.
 #[derive(Clone, Copy)]
-struct FreeWires {
+struct FreeWires<'a> {
+    wiring: &'a Wiring,
     count: usize,
     list: [u8; 256],
+    ghost listed: { ∥ Listed (weights wiring.now) wiring.now.m count list ∥₁ },
 }
 
-impl FreeWires {
+impl<'a> FreeWires<'a> {
     // In order. Each number is stored, and counted only where it belongs: a test around the store takes longer than the store.
-    fn of(wiring: &Wiring) -> FreeWires
-        ensures { Listed (weights wiring.now) wiring.now.m result.count result.list }
+    fn of(wiring: &'a Wiring) -> FreeWires<'a>
+        ensures { result.wiring.now ≡ wiring.now }
     {
         let mut count = 0;
         let mut list = [0; 256];
@@ -28,21 +30,27 @@ impl FreeWires {
                 count += 1;
             }
         }
-        FreeWires { count, list }
+        FreeWires {
+            wiring,
+            count,
+            list,
+        }
     }
 
     // From the last to the first: chains of wires that stand in reverse order rise in one sweep.
-    // `wiring` is what the list was made from.
-    fn turned(&self, wiring: &Wiring) -> FreeWires
-        requires { Listed (weights wiring.now) wiring.now.m self.now.count self.now.list }
-        ensures { Listed (weights wiring.now) wiring.now.m result.count result.list }
+    fn turned(&self) -> FreeWires<'a>
+        ensures { result.wiring.now ≡ self.now.wiring.now }
     {
         let count = self.count;
         let mut list = [0; 256];
         for i in 0..count {
             list[i] = self.list[count - 1 - i];
         }
-        FreeWires { count, list }
+        FreeWires {
+            wiring: self.wiring,
+            count,
+            list,
+        }
     }
 }
 
@@ -58,17 +66,12 @@ fn lift(f: usize, t: usize, d: u32, heights: &mut [u32; 64]) -> bool
 }
 
 // One sweep over the listed wires: whether a block rose. `done` counts the sweeps before it and bounds the heights.
-fn sweep(
-    wiring: &Wiring,
-    delays: &[u32; 64],
-    free: &FreeWires,
-    done: usize,
-    heights: &mut [u32; 64],
-) -> bool
-    requires wires { Delays wiring.now.n delays.now × Listed (weights wiring.now) wiring.now.m free.now.count free.now.list × (done ≤ 64) }
-    requires heights { Heights (wired wiring.now delays.now) (weights wiring.now) (256 * done) heights.old }
-    ensures { Swept (wired wiring.now delays.now) (weights wiring.now) (256 * (done + 1)) heights.old heights.new result }
+fn sweep(free: &FreeWires<'_>, delays: &[u32; 64], done: usize, heights: &mut [u32; 64]) -> bool
+    requires delays { Delays free.now.wiring.now.n delays.now × (done ≤ 64) }
+    requires heights { Heights (wired free.now.wiring.now delays.now) (weights free.now.wiring.now) (256 * done) heights.old }
+    ensures { Swept (wired free.now.wiring.now delays.now) (weights free.now.wiring.now) (256 * (done + 1)) heights.old heights.new result }
 {
+    let wiring = free.wiring;
     let mut rose = false;
     for i in 0..free.count {
         let j = free.list[i] as usize;
@@ -97,11 +100,11 @@ pub fn rise(wiring: &Wiring, delays: &[u32; 64], limit: u32, heights: &mut [u32;
     ensures { Risen (wired wiring.now delays.now) (weights wiring.now) limit heights.new result }
 {
     let forth = FreeWires::of(wiring);
-    let back = forth.turned(wiring);
+    let back = forth.turned();
     *heights = *delays;
     for done in 0..wiring.n {
         let free = if done % 2 == 0 { &forth } else { &back };
-        if !sweep(wiring, delays, free, done, heights) {
+        if !sweep(free, delays, done, heights) {
             return true;
         }
         if limit < highest(wiring.n, heights) {

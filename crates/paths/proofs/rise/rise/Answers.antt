@@ -1,38 +1,33 @@
 -- Sweep after sweep covers one wire more; one that changes nothing settles the heights.
 use native.Mathlib.Omega.{arith}
-use mathlib.Core.Path.{refl}
-use Rattle.std.proofs.Common.{◌≤◌}
+use mathlib.Core.Path.{◌≡◌, refl, ◌∙◌}
 use Rattle.paths.proofs.Heights.{heights_start, covered_start, covered_more, risen_still, risen_end, risen_above}
 use Rattle.paths.proofs.rise.rise.Goals as goal
 use Rattle.paths.proofs.rise.rise.Goals.{then-done-eq0, else-done-eq0}
 
 pub loop-done-init : goal.loop-done-init
 loop-done-init c = let p = c.requires in
-    (p.long, heights_start _ _ _ p.long (λ v h. refl) p.small, covered_start _ _ _ (λ v h. omega arith), c.of-forth.ensures, c.turned-back.ensures)
-
-pub sweep-requires : goal.sweep-requires
-sweep-requires c =
-    let w = c.args.wiring.now.wires in
-    let i = c.loop-done.invariant in
-    let done : c.loop-done.done ≤ 64 = omega (arith, w.few_blocks) in
-    elim c.if-done-eq0.branch [
-      | then-done-eq0 h ↦ record { wires = (c.requires, rw h.free-is i.3, done); heights = i.1 }
-      | else-done-eq0 h ↦ record { wires = (c.requires, rw h.free-is i.4, done); heights = i.1 }
-    ]
+    (p.long, heights_start _ _ _ p.long (λ v h. refl) p.small, covered_start _ _ _ (λ v h. omega arith), c.of-forth.ensures, c.turned-back.ensures ∙ c.of-forth.ensures)
 
 pub returns-then-not-sweep : goal.returns-then-not-sweep
-returns-then-not-sweep c = risen_still _ _ _ _ _ _ _ _ c.loop-done.invariant.2 (omega (arith, c.args.wiring.now.wires.few_blocks)) c.sweep.ensures c.if-not-sweep.true
+returns-then-not-sweep c = let e : c.if-done-eq0.free.now.wiring.now ≡ c.args.wiring.now = elim c.if-done-eq0.branch [ then-done-eq0 h ↦ rw h.free-is c.loop-done.invariant.3 | else-done-eq0 h ↦ rw h.free-is c.loop-done.invariant.4 ] in
+    let p = rw e at c.sweep.ensures in
+    risen_still _ _ _ _ _ _ _ _ c.loop-done.invariant.2 (omega (arith, c.args.wiring.now.wires.few_blocks)) p c.if-not-sweep.true
 
 pub highest-requires : goal.highest-requires
 highest-requires c = let w = c.args.wiring.now.wires in
     (w.some_block, w.few_blocks)
 
 pub returns-then-limit-highest : goal.returns-then-limit-highest
-returns-then-limit-highest c = risen_above _ _ _ _ _ _ (omega (arith, c.args.wiring.now.wires.few_blocks)) c.sweep.ensures.heights c.highest.ensures c.if-limit-highest.true
+returns-then-limit-highest c = let e : c.if-done-eq0.free.now.wiring.now ≡ c.args.wiring.now = elim c.if-done-eq0.branch [ then-done-eq0 h ↦ rw h.free-is c.loop-done.invariant.3 | else-done-eq0 h ↦ rw h.free-is c.loop-done.invariant.4 ] in
+    let p = rw e at c.sweep.ensures in
+    risen_above _ _ _ _ _ _ (omega (arith, c.args.wiring.now.wires.few_blocks)) p.heights c.highest.ensures c.if-limit-highest.true
 
 pub loop-done-preserved : goal.loop-done-preserved
-loop-done-preserved c = let h = c.sweep.ensures.heights in
-    (h.long, h, covered_more _ _ _ _ _ _ _ c.loop-done.invariant.2 c.sweep.ensures, c.loop-done.invariant.3, c.loop-done.invariant.4)
+loop-done-preserved c = let e : c.if-done-eq0.free.now.wiring.now ≡ c.args.wiring.now = elim c.if-done-eq0.branch [ then-done-eq0 h ↦ rw h.free-is c.loop-done.invariant.3 | else-done-eq0 h ↦ rw h.free-is c.loop-done.invariant.4 ] in
+    let p = rw e at c.sweep.ensures in
+    let h = p.heights in
+    (h.long, h, covered_more _ _ _ _ _ _ _ c.loop-done.invariant.2 p, c.loop-done.invariant.3, c.loop-done.invariant.4)
 
 pub returns : goal.returns
 returns c = risen_end _ _ _ _ _ _ (omega arith) (omega (arith, c.args.wiring.now.wires.few_blocks)) c.loop-done.invariant.2 c.loop-done.invariant.1

@@ -1,6 +1,6 @@
 -- After `done` sweeps the heights are paths', and every path of at most so many wires is covered.
 use Rattle.std.proofs.Common.{◌≡◌, ◌*◌, length}
-use Rattle.paths.specs.Rise.{Listed, Heights, Covered}
+use Rattle.paths.specs.Rise.{Heights, Covered}
 use Rattle.paths.specs.Wired.{wired, weights}
 use Rattle.paths.proofs.rise.rise.Given as goal
 
@@ -9,5 +9,5 @@ invariant-loop-done l =
     (length l.heights ≡ 64)
     × Heights (wired l.wiring l.delays) (weights l.wiring) (256 * l.done) l.heights
     × Covered (wired l.wiring l.delays) (weights l.wiring) l.done l.heights
-    × Listed (weights l.wiring) l.wiring.m l.forth.count l.forth.list
-    × Listed (weights l.wiring) l.wiring.m l.back.count l.back.list
+    × (l.forth.wiring.now ≡ l.wiring)
+    × (l.back.wiring.now ≡ l.wiring)
