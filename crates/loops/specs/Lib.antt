@@ -1,3 +1,4 @@
+pub mod Kind
 pub mod Link
 pub mod Test
 pub mod Loop

@@ -15,6 +15,7 @@ use sheet::frame::read_frame;
 use sheet::opened::Formed;
 use sheet::refusal::Refusal;
 
+pub mod kind; // the kinds of links, by number
 mod link; // a link as the words hold it
 mod path; // the wires of a link of kind 2
 mod read; // one link

@@ -2,6 +2,7 @@
 ghost use Rattle.std.specs.Prelude.{◌≡◌, ◌+◌, ◌≤◌, length, get_or};
 ghost use Rattle.loops.specs.Reads.{HeadGiven};
 
+use crate::kind::Kind;
 use sheet::block::Limit;
 
 // Which rule of a wire: it keeps 0 registers or more, or 2,000 or fewer.
@@ -53,12 +54,11 @@ pub fn head_at(words: &[u16], at: usize) -> Option<Link>
         return None;
     }
     let x = words[at + 1] as usize;
-    match words[at] {
-        1 => Some(Link::Wire(Bound::Floor, x)),
-        2 => path_head(words, at, x),
-        3 => Some(Link::Block(Limit::Upper, x)),
-        4 => Some(Link::Block(Limit::Lower, x)),
-        5 => Some(Link::Wire(Bound::Ceiling, x)),
-        _ => None,
+    match Kind::try_from(words[at]).ok()? {
+        Kind::Wire => Some(Link::Wire(Bound::Floor, x)),
+        Kind::Path => path_head(words, at, x),
+        Kind::Upper => Some(Link::Block(Limit::Upper, x)),
+        Kind::Lower => Some(Link::Block(Limit::Lower, x)),
+        Kind::Ceiling => Some(Link::Wire(Bound::Ceiling, x)),
     }
 }

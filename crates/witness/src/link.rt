@@ -2,31 +2,22 @@
 ghost use Rattle.std.specs.Prelude.{◌≡◌, [], ◌∷◌, ℕ, ◌+◌, ◌*◌, ◌<◌, ◌≤◌, ℤ, length};
 ghost use Rattle.std.proofs.lemmas.List.Edits.{sets};
 ghost use Rattle.sheet.specs.Core.{core_of};
+ghost use Rattle.loops.specs.Kind.{number_of};
 ghost use Rattle.witness.specs.Trace.{Tabled, Known, registers_at};
 ghost use Rattle.witness.specs.Written.{Asked, PathWritten, LinkWritten};
 ghost use Rattle.witness.specs.Walked.{Begun};
 
 use crate::trace::trace;
+use loops::kind::Kind;
 use sheet::opened::Formed;
 use solver::{Given, Rule};
 
-// The kinds of links, as a loop's words number them: numbers, since 01 has them so and `check_loop` reads them so.
-const WIRE: u16 = 1;
-
-const PATH: u16 = 2;
-
-const UPPER: u16 = 3;
-
-const LOWER: u16 = 4;
-
-const CEILING: u16 = 5;
-
 // The words of a link of a kind other than a path's; how many they are.
-fn write_pair(words: &mut [u16], kind: u16, x: usize) -> usize
+fn write_pair(words: &mut [u16], kind: Kind, x: usize) -> usize
     requires { (2 ≤ length words.old) × (x < 65536) }
-    ensures { (words.new ≡ sets words.old 0 (kind ∷ x ∷ [])) × (result ≡ 2) }
+    ensures { (words.new ≡ sets words.old 0 (number_of kind ∷ x ∷ [])) × (result ≡ 2) }
 {
-    words[0] = kind;
+    words[0] = kind as u16;
     words[1] = x as u16;
     2
 }
@@ -39,7 +30,7 @@ pub fn write_start(start: usize, a: usize, words: &mut [u16]) -> usize
     if start == a {
         return 0;
     }
-    write_pair(words, LOWER, a)
+    write_pair(words, Kind::Lower, a)
 }
 
 // Kind 2: a best path from a to b.
@@ -50,7 +41,7 @@ fn write_path(sheet: Formed<'_>, given: &Given, a: usize, b: usize, words: &mut 
     let mut found = [0u16; 64];
     let wires = trace(sheet, given, a, b, &mut found);
     let end = 3 + wires.len();
-    words[0] = PATH;
+    words[0] = Kind::Path as u16;
     words[1] = a as u16;
     words[2] = wires.len() as u16;
     words[3..end].copy_from_slice(wires);
@@ -72,9 +63,9 @@ pub fn write_link(
     ensures { (k : ℤ) → Asked (core_of sheet.entry.bytes.now) given.now.period rule a b k → LinkWritten (core_of sheet.entry.bytes.now) given.now.period rule a b k words.old words.new 0 result }
 {
     match rule {
-        Rule::Limit => write_pair(words, UPPER, a),
+        Rule::Limit => write_pair(words, Kind::Upper, a),
         Rule::Path => write_path(sheet, given, a, b, words),
-        Rule::Wire(j) => write_pair(words, WIRE, j),
-        Rule::Ceiling(j) => write_pair(words, CEILING, j),
+        Rule::Wire(j) => write_pair(words, Kind::Wire, j),
+        Rule::Ceiling(j) => write_pair(words, Kind::Ceiling, j),
     }
 }
