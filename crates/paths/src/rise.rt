@@ -101,15 +101,16 @@ pub fn rise(wiring: &Wiring, delays: &[u32; 64], limit: u32, heights: &mut [u32;
 {
     let forth = FreeWires::of(wiring);
     let back = forth.turned();
+    let (mut free, mut other) = (&forth, &back);
     *heights = *delays;
     for done in 0..wiring.n {
-        let free = if done % 2 == 0 { &forth } else { &back };
         if !sweep(free, delays, done, heights) {
             return true;
         }
         if limit < highest(wiring.n, heights) {
             return false;
         }
+        (free, other) = (other, free);
     }
     false
 }

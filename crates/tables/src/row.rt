@@ -1,8 +1,7 @@
 // One row of the path table: rounds over the wires, each tried in place, left as soon as a round changes nothing.
 // While it is filled, a row holds one key for each block: its registers and its delay in one number, the lower the better.
-ghost use Rattle.std.specs.Prelude.{◌≡◌, ℕ, ◌+◌, ◌*◌, ◌%◌, ◌<◌, ◌≤◌, length, get_or};
+ghost use Rattle.std.specs.Prelude.{◌≡◌, ◌+◌, ◌*◌, ◌%◌, ◌<◌, ◌≤◌, length, get_or};
 ghost use Rattle.paths.specs.Lists.{held};
-ghost use Rattle.paths.specs.Table.{LoopAt};
 ghost use Rattle.sheet.specs.Filled.{filled};
 ghost use Rattle.tables.specs.Costed.{shape_of, weights_of};
 ghost use Rattle.tables.specs.Row.{base_of, Row, RowRight};
@@ -64,8 +63,7 @@ fn round(costed: &Costed<'_>, u: usize, start: usize, done: usize, keys: &mut [u
 
 // The keys of block u's row: at most n rounds from the bare start block.
 fn settle(costed: &Costed<'_>, u: usize) -> [usize; 64]
-    requires block { u < costed.now.wiring.now.n }
-    requires no_loop { (b : ℕ) → LoopAt (shape_of costed.now) (weights_of costed.now) b → ⊥ }
+    requires { u < costed.now.wiring.now.n }
     ensures { KeysRight (shape_of costed.now) (weights_of costed.now) u result }
 {
     let start = 2147483648 - costed.delays[u] as usize;
@@ -107,8 +105,7 @@ fn unpack(n: usize, keys: &[usize; 64], ws: &mut [u32], ds: &mut [u32])
 
 // The row of block u: its keys, then the numbers that they hold.
 pub fn fill_row(costed: &Costed<'_>, u: usize, ws: &mut [u32], ds: &mut [u32])
-    requires lists { (u < costed.now.wiring.now.n) × (length ws.old ≡ costed.now.wiring.now.n) × (length ds.old ≡ costed.now.wiring.now.n) }
-    requires no_loop { (b : ℕ) → LoopAt (shape_of costed.now) (weights_of costed.now) b → ⊥ }
+    requires { (u < costed.now.wiring.now.n) × (length ws.old ≡ costed.now.wiring.now.n) × (length ds.old ≡ costed.now.wiring.now.n) }
     ensures { RowRight (shape_of costed.now) (weights_of costed.now) u ws.new ds.new }
 {
     let keys = settle(costed, u);

@@ -1,8 +1,7 @@
 // The path table, row after row.
-ghost use Rattle.std.specs.Prelude.{◌≡◌, ℕ, ◌*◌, ◌≤◌, length};
+ghost use Rattle.std.specs.Prelude.{◌≡◌, ◌*◌, ◌≤◌, length};
 ghost use Rattle.sheet.specs.Core.{registers_in};
 ghost use Rattle.sheet.specs.Core as C;
-ghost use Rattle.paths.specs.Table.{LoopAt};
 ghost use Rattle.tables.specs.Costed.{shape_of, weights_of};
 ghost use Rattle.tables.specs.Row.{Rows};
 
@@ -13,8 +12,7 @@ use paths::wiring::Wiring;
 
 // Each starting block's row is lent on as a mutable part of the two tables and filled.
 pub fn fill_table(costed: &Costed<'_>, ws: &mut [u32], ds: &mut [u32])
-    requires lists { (costed.now.wiring.now.n * costed.now.wiring.now.n ≤ length ws.old) × (costed.now.wiring.now.n * costed.now.wiring.now.n ≤ length ds.old) }
-    requires no_loop { (b : ℕ) → LoopAt (shape_of costed.now) (weights_of costed.now) b → ⊥ }
+    requires { (costed.now.wiring.now.n * costed.now.wiring.now.n ≤ length ws.old) × (costed.now.wiring.now.n * costed.now.wiring.now.n ≤ length ds.old) }
     ensures { Rows (shape_of costed.now) (weights_of costed.now) costed.now.wiring.now.n ws.old ds.old ws.new ds.new }
 {
     let n = costed.wiring.n;

@@ -9,5 +9,5 @@ invariant-loop-done l =
     (length l.heights ≡ 64)
     × Heights (wired l.wiring l.delays) (weights l.wiring) (256 * l.done) l.heights
     × Covered (wired l.wiring l.delays) (weights l.wiring) l.done l.heights
-    × (l.forth.wiring.now ≡ l.wiring)
-    × (l.back.wiring.now ≡ l.wiring)
+    × (l.free.wiring.now ≡ l.wiring)
+    × (l.other.wiring.now ≡ l.wiring)

@@ -14,4 +14,4 @@ loop-j-preserved c = (simp length-set (omega (arith, c.loop-j.invariant.0)), fil
 pub invariant_of-result-clause-weighed : goal.invariant_of-result-clause-weighed
 invariant_of-result-clause-weighed c =
     let e : c.loop-j.j ≡ c.args.wiring.now.m = omega arith in
-    costs_of _ _ _ _ _ _ _ _ c.args.wiring.now.wires c.requires (length-replicate {A = ℕ} 256 0) (rw e at c.loop-j.invariant.1)
+    costs_of _ _ _ _ _ _ _ _ c.args.wiring.now.wires c.requires.small (length-replicate {A = ℕ} 256 0) (rw e at c.loop-j.invariant.1)
