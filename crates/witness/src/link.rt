@@ -7,7 +7,7 @@ ghost use Rattle.witness.specs.Trace.{Tabled, Known, registers_at};
 ghost use Rattle.witness.specs.Written.{Asked, PathWritten, LinkWritten};
 ghost use Rattle.witness.specs.Walked.{Begun};
 
-use crate::trace::trace;
+use crate::trace::Pair;
 use loops::kind::Kind;
 use sheet::opened::Formed;
 use solver::{Given, Rule};
@@ -39,7 +39,13 @@ fn write_path(sheet: Formed<'_>, given: &Given, a: usize, b: usize, words: &mut 
     ensures { PathWritten sheet.entry.bytes.now given.now a b words.old words.new result }
 {
     let mut found = [0u16; 64];
-    let wires = trace(sheet, given, a, b, &mut found);
+    let pair = Pair {
+        sheet,
+        given,
+        u: a,
+        v: b,
+    };
+    let wires = pair.trace(&mut found);
     let end = 3 + wires.len();
     words[0] = Kind::Path as u16;
     words[1] = a as u16;
