@@ -2,6 +2,8 @@
 ghost use Rattle.descent.specs.System.{Fit};
 
 // The key of each pair of blocks, and the limits between which each block's lag lies, as excess numbers.
+// The period stays beside them: one table serves each period that `least` tries, `Descent::start` speaks of every period,
+// and `LeastRest` of two.
 #[derive(Clone, Copy)]
 pub struct Rules<'a> {
     pub keys: &'a [u32; 4096],

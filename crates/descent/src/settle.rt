@@ -8,6 +8,7 @@ use crate::rules::{NoLags, Rules};
 
 // Lags on their way down: each block's lag as an excess number, the block whose rule lowered it last (none: 64 and
 // above), and the lag at which its column was taken last (never: 40,000, above all lags).
+// Lists side by side and not one of blocks: the lags of all 64 are compared, and stored with their links, as vectors.
 // Numbers stand for none here, since a push stores 64 links as vectors: with an Option it takes more than twice as long.
 #[derive(Clone, Copy)]
 pub struct Descent {

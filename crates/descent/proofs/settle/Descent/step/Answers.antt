@@ -1,4 +1,4 @@
-use Rattle.descent.specs.Laws.Round.{step_still, step_tested, sinking}
+use Rattle.descent.specs.Laws.Round.{step_still, step_tested}
 use Rattle.descent.proofs.settle.Descent.step.Goals as goal
 
 pub returns-then-not-lowers-clause-on : goal.returns-then-not-lowers-clause-on
@@ -6,6 +6,3 @@ returns-then-not-lowers-clause-on c = step_still c.requires.0 c.requires.1 c.if-
 
 pub returns-clause-on : goal.returns-clause-on
 returns-clause-on c = step_tested c.requires.0 c.requires.1 c.if-self-v.false c.push.ensures c.under.ensures c.if-under.false _
-
-pub no_lags_once_sunk-requires : goal.no_lags_once_sunk-requires
-no_lags_once_sunk-requires c = (sinking c.requires.0 c.requires.1 c.if-self-v.false c.push.ensures c.under.ensures c.if-under.true, c.requires.0.c_small, c.requires.1)
