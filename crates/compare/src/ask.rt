@@ -7,6 +7,7 @@ use records::lent::{kept, marked};
 use records::out::Out;
 
 // After the head the table where there is one, and whether the rest of both lists was kept.
+// Here and in `solve` output and record stay two arguments: no fact joins them.
 fn table(out: &mut Out, asked: &Record) {
     let mut registers = marked::<u32>();
     let mut delays = marked::<u32>();

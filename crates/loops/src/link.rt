@@ -45,7 +45,7 @@ fn path_head(words: &[u16], at: usize, start: usize) -> Option<Link>
     Some(Link::Path(start, count))
 }
 
-// The link whose words begin at `at`, before its blocks and wires are looked at.
+// The link whose words begin at `at`, before its blocks and wires are looked at: of words alone, which have no type of their own.
 pub fn head_at(words: &[u16], at: usize) -> Option<Link>
     requires { (at ≤ length words.now) × (length words.now ≤ 4224) }
     ensures { HeadGiven words.now at result }

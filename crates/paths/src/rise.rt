@@ -81,7 +81,7 @@ fn sweep(free: &FreeWires<'_>, delays: &[u32; 64], done: usize, heights: &mut [u
     rose
 }
 
-// The largest of the first n heights.
+// The largest of the first n heights. There is no heap: the list has room for 64.
 fn highest(n: usize, heights: &[u32; 64]) -> u32
     requires { (1 ≤ n) × (n ≤ 64) }
     ensures { Highest heights.now n result }
@@ -94,7 +94,8 @@ fn highest(n: usize, heights: &[u32; 64]) -> u32
 }
 
 // The heights: sweeps forth and back in turn until one changes nothing, and as many as there are blocks at most.
-// Register-free loops raise them without end: a height above `limit` ends the sweeps as well.
+// Register-free loops raise them without end: a height above `limit` ends the sweeps as well. The delays stand beside the wiring,
+// since a search for loops asks with delays of 1.
 pub fn rise(wiring: &Wiring, delays: &[u32; 64], limit: u32, heights: &mut [u32; 64]) -> bool
     requires { Delays wiring.now.n delays.now }
     ensures { Risen (wired wiring.now delays.now) (weights wiring.now) limit heights.new result }

@@ -56,7 +56,7 @@ pub fn load(sheet: Sound<'_>, given: &mut Given)
     );
 }
 
-// The first n lags, from their excess numbers.
+// The first n lags, from their excess numbers. There is no heap: the list has room for 64, and n of them count.
 pub fn write_lags(n: usize, e: &[u32; 64], lags: &mut [i16])
     requires { (n ≤ 64) × (length e.now ≡ 64) × (n ≤ length lags.old) × ((b : ℕ) → b < n → get_or e.now b 0 < 65536) }
     ensures { lags.new ≡ filled (λ b. lag_of (get_or e.now b 0)) n lags.old }

@@ -92,7 +92,7 @@ fn delay_of(k: usize) -> u32
     (2147483648 - k % 4294967296) as u32
 }
 
-// The registers and the delay of each of n keys, into the row.
+// The registers and the delay of each of n keys, into the row. There is no heap: the list has room for 64 keys.
 fn unpack(n: usize, keys: &[usize; 64], ws: &mut [u32], ds: &mut [u32])
     requires { (n ≤ 64) × (length ws.old ≡ n) × (length ds.old ≡ n) × Whole n keys.now }
     ensures { (ws.new ≡ filled (λ v. key_w (get_or keys.now v 0)) n ws.old) × (ds.new ≡ filled (λ v. key_d (get_or keys.now v 0)) n ds.old) }
