@@ -61,7 +61,8 @@ fn round(costed: &Costed<'_>, u: usize, start: usize, done: usize, keys: &mut [u
     improved
 }
 
-// The keys of block u's row: at most n rounds from the bare start block.
+// The keys of block u's row: at most n rounds from the bare start block. The block and its start are made here, for one row, and
+// go down as numbers: in a struct with the costs they would be taken out again at each use.
 fn settle(costed: &Costed<'_>, u: usize) -> [usize; 64]
     requires { u < costed.now.wiring.now.n }
     ensures { KeysRight (shape_of costed.now) (weights_of costed.now) u result }
