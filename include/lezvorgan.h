@@ -18,7 +18,7 @@
  *   - NULL only with length 0; place and value are never NULL;
  *   - lists and pointers that are written (place and value too) overlap nothing else of the same call;
  *   - nobody else changes that memory during the call;
- *   - the stack has room: as built today a call uses less than 64 KiB (lez_lags_at 49, lez_best 39, lez_path_table 11,
+ *   - the stack has room: as built today a call uses less than 64 KiB (lez_lags_at 52, lez_best 43, lez_path_table 11,
  *     lez_period 9, the others 6).
  */
 #ifndef LEZVORGAN_H
