@@ -1,6 +1,6 @@
 -- What holds of lags on their way down, and what each function gives.
 use Rattle.std.specs.Prelude.{◌≡◌, ◌⊎◌, Bool, true, false, List, ℕ, ◌+◌, ◌≤◌, ◌<◌, length, get_or}
-use Rattle.sheet.specs.Laws.Sum.{sum}
+use Rattle.sheet.specs.Sum.{sum}
 use Rattle.descent.specs.System.{slack, Fit, Keeps, Floor}
 use Rattle.descent.specs.declared.rules.Rules.{Rules}
 

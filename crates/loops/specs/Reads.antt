@@ -1,7 +1,7 @@
 -- What each reader of a loop's words gives, case by case.
 use Rattle.std.specs.Prelude.{◌≡◌, List, ◌∷◌, ◌++◌, ℕ, ◌+◌, ◌*◌, ◌<◌, ◌≤◌, length, take, drop, Option, Some, None}
 use Rattle.sheet.specs.Core.{core_of, shape_of, blocks_in, wires_in, delay_in, from_in, to_in, registers_in}
-use Rattle.sheet.specs.Laws.Integer.{up, down}
+use Rattle.sheet.specs.Integer.{up, down}
 use Rattle.paths.specs.Path.{Joins, registers_on, delay_on, end_of}
 use Rattle.loops.specs.Link.{Link, wire, path, upper, lower, ceiling, words_of, all_words, link_a, link_b, link_k, Good, Chain, sum_k}
 use Rattle.sheet.specs.declared.block.Limit.{Limit}

@@ -18,7 +18,7 @@ use Rattle.paths.specs.Rise.{Stands, Listed, Lifted, Highest, Ending, Heights, o
 use Rattle.paths.specs.Laws.Path.{joins_start_lt, joins_end_lt, joins_ends, registers_snoc, Last, nil, snoc, last}
 use Rattle.paths.proofs.Delays.{delay_snoc}
 use Rattle.paths.specs.Laws.Simple.{Loop, passed, simple_or_loop, simple_short, cut_registers, loop_at}
-use Rattle.paths.specs.Laws.Pigeons.{NoDup}
+use Rattle.paths.specs.Distinct.{NoDup}
 use Rattle.paths.specs.Laws.Same.{same_sym, loop_same}
 use Rattle.paths.specs.Laws.Loaded.{wires_same}
 use Rattle.paths.specs.Wired.{wired, weights, WiringOf}

@@ -5,7 +5,7 @@ use Rattle.std.proofs.Common.{inl, inr, arith}
 use Rattle.std.proofs.Math.Decide.{ℕ_discrete}
 use Rattle.sheet.specs.Core.{Core}
 use Rattle.sheet.specs.Sheet.{Formed}
-use Rattle.sheet.specs.Laws.Integer.{up}
+use Rattle.sheet.specs.Integer.{up}
 use Rattle.paths.specs.Path.{Joins, registers_on, delay_on}
 use Rattle.paths.specs.Table.{Best, Entry, best, none}
 use Rattle.paths.specs.Laws.Path.{joins_start_lt, joins_end_lt}

@@ -1,7 +1,7 @@
 -- What the two lag questions give: the largest lags that meet a period, the least period, and the loops that prove a refusal.
 use Rattle.std.specs.Prelude.{◌≡◌, List, ◌∷◌, map, ℕ, ◌≤◌, ◌<◌, ℤ, pos, ◌≤ℤ◌, length, get_or}
 use Rattle.sheet.specs.Core.{Core}
-use Rattle.paths.specs.Laws.Pigeons.{NoDup}
+use Rattle.paths.specs.Distinct.{NoDup}
 use Rattle.moves.specs.Lags.{Permitted, Meets}
 use Rattle.loops.specs.Link.{link_a, ValidLoop, NoPath}
 

@@ -1,3 +1,5 @@
+pub mod Integer
+pub mod Sum
 pub mod Bytes
 pub mod Lag
 pub mod Core

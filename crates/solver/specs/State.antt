@@ -7,7 +7,7 @@ use Rattle.solver.specs.declared.Rule.{Rule}
 use Rattle.solver.specs.declared.Rule.TheVariants as R
 use Rattle.solver.specs.System.{Says, Link, Fit, Solution, Holds}
 use Rattle.solver.specs.Walk.{Rooted, Hit}
-use Rattle.sheet.specs.Laws.Sum.{sum}
+use Rattle.sheet.specs.Sum.{sum}
 
 -- Every solution lies at or below the lags, a block is at or above what its rule asks, and following links ends at the host.
 pub record State (g : Given) (t : Standing) : Type 0 where

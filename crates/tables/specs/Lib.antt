@@ -1,3 +1,4 @@
+pub mod Order
 pub mod Row
 pub mod Back
 pub mod Keys

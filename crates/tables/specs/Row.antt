@@ -5,7 +5,7 @@ use Rattle.sheet.specs.Core.{Shape}
 use Rattle.paths.specs.Lists.{held}
 use Rattle.paths.specs.Table.{Way, Entry}
 use Rattle.paths.specs.Questions.{KeptFrom}
-use Rattle.tables.specs.Laws.Ahead.{Ahead}
+use Rattle.tables.specs.Order.{Ahead}
 
 -- where a wire out of block f starts: at the bare start block u, (0, its delay), or at what the row holds for f
 abbrev pub base_of : ℕ → ℕ → (ℕ → ℕ) → ℕ → ℕ

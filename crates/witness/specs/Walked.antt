@@ -2,9 +2,9 @@
 use Rattle.std.specs.Prelude.{◌≡◌, List, [], ◌∷◌, map, ℕ, zero, suc, ◌+◌, ◌*◌, ◌≤◌, ◌<◌, length, get_or}
 use Rattle.std.proofs.lemmas.List.Edits.{sets}
 use Rattle.sheet.specs.Core.{Core, core_of}
-use Rattle.sheet.specs.Laws.Integer.{up, down}
+use Rattle.sheet.specs.Integer.{up, down}
 use Rattle.paths.specs.Table.{Best}
-use Rattle.paths.specs.Laws.Pigeons.{NotIn, NoDup}
+use Rattle.paths.specs.Distinct.{NotIn, NoDup}
 use Rattle.loops.specs.Link.{Link, all_words, link_a, Chain, sum_k, NoPath}
 use Rattle.solver.specs.declared.Given.{Given}
 use Rattle.solver.specs.declared.Standing.{Standing}

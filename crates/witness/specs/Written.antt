@@ -4,7 +4,7 @@ use Rattle.std.proofs.lemmas.List.Edits.{sets}
 use Rattle.sheet.specs.Core.{Core, registers_in, shape_of}
 use Rattle.paths.specs.Table.{Best}
 use Rattle.paths.specs.Questions.{KeptFrom}
-use Rattle.paths.specs.Laws.Pigeons.{NoDup}
+use Rattle.paths.specs.Distinct.{NoDup}
 use Rattle.solver.specs.declared.Given.{Given}
 use Rattle.solver.specs.declared.Rule.{Rule}
 use Rattle.solver.specs.declared.Rule.TheVariants as R

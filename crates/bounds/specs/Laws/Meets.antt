@@ -6,7 +6,8 @@ use Rattle.std.proofs.Math.Decide.{dec_lt}
 use Rattle.sheet.specs.Lag.{excess, lag_of}
 use Rattle.sheet.specs.Core.{blocks_in, wires_in, lower_in, upper_in, from_in, to_in, registers_in, shape_of, core_of}
 use Rattle.sheet.specs.Sheet.{Formed}
-use Rattle.sheet.specs.Laws.Integer.{up, down, sub_parts, le_parts, parts_le}
+use Rattle.sheet.specs.Integer.{up, down}
+use Rattle.sheet.specs.Laws.Integer.{sub_parts, le_parts, parts_le}
 use Rattle.sheet.specs.Laws.Sheet.{lower_parts, upper_parts}
 use Rattle.sheet.specs.Laws.Formed.{formed_core, formed_numbers}
 use Rattle.paths.specs.Path.{Joins, registers_on, delay_on}

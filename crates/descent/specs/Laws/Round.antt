@@ -4,7 +4,8 @@ use Rattle.std.specs.Prelude.{Bool, true, false, ℕ, ◌<◌, ◌≤◌, ◌≡
 use Rattle.std.proofs.Common.{sym, ◌∙◌, inl, arith, length-set, get_or-set_same, get_or-set_other}
 use Rattle.std.proofs.Math.Decide.{ℕ_discrete}
 use Rattle.std.proofs.lemmas.List.{get_or-replicate, length-replicate}
-use Rattle.sheet.specs.Laws.Sum.{sum, sum_set}
+use Rattle.sheet.specs.Sum.{sum}
+use Rattle.sheet.specs.Laws.Sum.{sum_set}
 use Rattle.descent.specs.State.{State, IsColumn, Falls, Stays, Pushed, Under, Going, Stepped}
 use Rattle.descent.specs.Chain.{Sinking}
 use Rattle.descent.specs.declared.rules.NoLags.{NoLags}

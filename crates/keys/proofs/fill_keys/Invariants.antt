@@ -1,5 +1,5 @@
 -- Every sweep but the last lowers the sum of the keys; after it all wires hold.
-use Rattle.sheet.specs.Laws.Sum.{sum}
+use Rattle.sheet.specs.Sum.{sum}
 use Rattle.keys.specs.Filling.{Settling}
 use Rattle.keys.specs.Ordered.{shape_of, weights_of}
 use Rattle.keys.proofs.fill_keys.Given as goal

@@ -2,7 +2,7 @@
 -- Assumes nothing.
 use Rattle.std.specs.Prelude.{List, [], ◌∷◌, ℕ, suc, ◌*◌, ◌≤◌, ◌<◌, length, get_or}
 use Rattle.std.proofs.Common.{arith}
-use Rattle.sheet.specs.Laws.Sum.{sum}
+use Rattle.sheet.specs.Sum.{sum}
 
 pub sum_most : (l : List ℕ) → ((i : ℕ) → i < length l → get_or l i 0 ≤ 2099249152) → sum l ≤ 2099249152 * length l
 unfolding sum

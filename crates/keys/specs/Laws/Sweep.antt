@@ -13,7 +13,7 @@ use Rattle.keys.specs.Keys.{entry, Turns}
 use Rattle.keys.specs.declared.order.Direction.{Direction}
 use Rattle.keys.specs.declared.order.Direction.TheVariants.{Forwards, Backwards}
 use Rattle.keys.specs.Filling.{Blank, Lanes, turn_at, Stepped, Stepped.idle, Stepped.tried, Standing, Holds, Settling, Sweeping, Swept}
-use Rattle.sheet.specs.Laws.Sum.{sum}
+use Rattle.sheet.specs.Sum.{sum}
 use Rattle.keys.specs.Laws.Sum.{sum_most}
 use Rattle.keys.specs.Laws.Entry.{stored, counts_same}
 use Rattle.keys.specs.Laws.Stand.{standing_blank, standing_tried}

@@ -5,7 +5,8 @@ use Rattle.std.proofs.Math.Decide.{dec_lt}
 use Rattle.sheet.specs.Rules.{Told}
 use Rattle.std.proofs.Common.{lt-ltb, le-ltb, ltb, sym, ap, ◌∙◌, subst, append_assoc, append-nil, arith, ltb→lt, length-drop, drop_of_length-le}
 use Rattle.sheet.specs.Core.{Core, core_of}
-use Rattle.sheet.specs.Laws.Integer.{up, down, plus}
+use Rattle.sheet.specs.Integer.{up, down}
+use Rattle.sheet.specs.Laws.Integer.{plus}
 use Rattle.loops.specs.Link.{Link, words_of, all_words, link_a, link_b, link_k, Chain, sum_k, ValidLoop}
 use Rattle.loops.specs.Reads.{LinkIs, LinkGiven, Chained}
 use Rattle.loops.specs.Laws.Words.{same_link, spelt_long, split_words, words_append}

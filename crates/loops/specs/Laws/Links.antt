@@ -5,7 +5,8 @@ use Rattle.std.proofs.Common.{sym, ◌∙◌, subst, inl, inr, arith}
 use Rattle.sheet.specs.Core.{core_of, blocks_in, wires_in, delay_in, lower_in, upper_in, registers_in}
 use Rattle.sheet.specs.Sheet.{BlockGood}
 use Rattle.sheet.specs.Reads.{BlockIs, WireIs}
-use Rattle.sheet.specs.Laws.Integer.{up, down, minus, negated}
+use Rattle.sheet.specs.Integer.{up, down}
+use Rattle.sheet.specs.Laws.Integer.{minus, negated}
 use Rattle.sheet.specs.Laws.Sheet.{lower_parts, upper_parts}
 use Rattle.loops.specs.Link.{Link, wire, upper, lower, ceiling, Good}
 use Rattle.loops.specs.Reads.{Spelt, HeadGiven, LinkGiven, WireSettled, BlockSettled}

@@ -6,7 +6,8 @@ use Rattle.std.proofs.Math.Decide.{ℕ_discrete}
 use Rattle.sheet.specs.Core.{Core, core_of}
 use Rattle.sheet.specs.Sheet.{Formed, frame_rules}
 use Rattle.sheet.specs.Rules.{First, refusal, answer}
-use Rattle.sheet.specs.Laws.Integer.{up, down, plus, minus, negated, le_parts, parts_eq}
+use Rattle.sheet.specs.Integer.{up, down}
+use Rattle.sheet.specs.Laws.Integer.{plus, minus, negated, le_parts, parts_eq}
 use Rattle.sheet.specs.Laws.Rules.{past}
 use Rattle.sheet.specs.Laws.Formed.{formed_core, frame_nonzero}
 use Rattle.sheet.specs.declared.answer.Answer.{Answer}

@@ -3,7 +3,8 @@
 use Rattle.std.specs.Prelude.{◌≡◌, Bool, true, false, cond, List, [], ◌∷◌, ℕ, ◌+◌, ◌<◌, ℤ, pos, ◌+ℤ◌, ◌-ℤ◌}
 use Rattle.std.proofs.Common.{ap, arith}
 use Rattle.sheet.specs.Core.{Core}
-use Rattle.sheet.specs.Laws.Integer.{up, down, plus, minus, parts_eq}
+use Rattle.sheet.specs.Integer.{up, down}
+use Rattle.sheet.specs.Laws.Integer.{plus, minus, parts_eq}
 use Rattle.paths.specs.Path.{Joins, registers_on, Step, step_to, Walks, walked}
 use Rattle.paths.specs.Table.{LoopAt, Best}
 use Rattle.moves.specs.Lags.{MovedTo}

@@ -4,7 +4,8 @@ use Rattle.std.specs.Prelude.{◌≡◌, refl, ◌⊎◌, List, ℕ, ◌+◌, �
 use Rattle.std.proofs.Common.{sym, ap, inl, inr, arith}
 use Rattle.sheet.specs.Core.{Core}
 use Rattle.sheet.specs.Sheet.{Formed}
-use Rattle.sheet.specs.Laws.Integer.{up, down, plus, minus, le_parts, parts_le, parts_eq}
+use Rattle.sheet.specs.Integer.{up, down}
+use Rattle.sheet.specs.Laws.Integer.{plus, minus, le_parts, parts_le, parts_eq}
 use Rattle.paths.specs.Path.{Joins, registers_on, delay_on}
 use Rattle.paths.specs.Laws.Path.{joins_start_lt, joins_end_lt}
 use Rattle.moves.specs.Lags.{moved_by, InRange, Permitted, MovedTo, Meets, Larger, Smaller}

@@ -4,7 +4,8 @@ use Rattle.std.specs.Prelude.{◌≡◌, refl, List, [], ◌∷◌, ℕ, ◌*◌
 use Rattle.std.proofs.Common.{sym, ap, ◌∙◌, arith}
 use Rattle.sheet.specs.Core.{Core, Shape}
 use Rattle.sheet.specs.Sheet.{Formed, BlockRule}
-use Rattle.sheet.specs.Laws.Integer.{up, down, plus, minus, le_parts, parts_le, parts_eq}
+use Rattle.sheet.specs.Integer.{up, down}
+use Rattle.sheet.specs.Laws.Integer.{plus, minus, le_parts, parts_le, parts_eq}
 use Rattle.paths.specs.Path.{Joins, registers_on}
 use Rattle.paths.specs.Table.{LoopAt, Entry, best, none, Sound}
 use Rattle.paths.specs.Laws.Simple.{shorten}

@@ -8,7 +8,8 @@ use Rattle.std.proofs.Math.Facts.{to_z_inj}
 use Rattle.sheet.specs.Bytes.{Bytes, u16_at, u32_at, i16_at}
 use Rattle.sheet.specs.Core.{core_of, blocks_in, wires_in, block_at, wire_at, delay_in, lower_in, upper_in, from_in, to_in, registers_in, spare_in}
 use Rattle.sheet.specs.Sheet.{FormedSheet, Formed}
-use Rattle.sheet.specs.Laws.Integer.{up, plus, minus, parts_eq}
+use Rattle.sheet.specs.Integer.{up}
+use Rattle.sheet.specs.Laws.Integer.{plus, minus, parts_eq}
 use Rattle.sheet.specs.Laws.Bytes.{u16_below}
 use Rattle.sheet.specs.Laws.Formed.{formed_core}
 use Rattle.moves.specs.Lags.{Permitted, Moved}

@@ -13,7 +13,8 @@ use Rattle.sheet.specs.Bytes.{Bytes, u16_at}
 use Rattle.sheet.specs.Core.{core_of, blocks_in, wires_in, block_at, wire_at, lower_in, upper_in, from_in, to_in, registers_in}
 use Rattle.sheet.specs.Sheet.{LagLimits, FormedSheet}
 use Rattle.sheet.specs.Laws.Filled.{length_filled, filled_at, filled_past}
-use Rattle.sheet.specs.Laws.Integer.{up, down, sub_parts, minus, le_parts, parts_le, parts_eq}
+use Rattle.sheet.specs.Integer.{up, down}
+use Rattle.sheet.specs.Laws.Integer.{sub_parts, minus, le_parts, parts_le, parts_eq}
 use Rattle.sheet.specs.Laws.Lag.{excess_parts, bits_lag, order, moved_is, moved_low}
 use Rattle.sheet.specs.Laws.Bytes.{put16_other, put16_read, put16_apart}
 use Rattle.sheet.specs.Laws.Sheet.{limits_fit, lower_fits, upper_fits, block_numbers}

@@ -4,7 +4,8 @@ use Rattle.std.specs.Prelude.{◌≡◌, ◌↔◌, List, ℕ, ◌≤◌, ◌<�
 use Rattle.std.proofs.Common.{arith}
 use Rattle.std.proofs.Math.Decide.{dec_le, ℕ_discrete}
 use Rattle.sheet.specs.Core.{Core}
-use Rattle.sheet.specs.Laws.Integer.{up, minus, le_parts, parts_le}
+use Rattle.sheet.specs.Integer.{up}
+use Rattle.sheet.specs.Laws.Integer.{minus, le_parts, parts_le}
 use Rattle.paths.specs.Path.{Joins, registers_on, delay_on}
 use Rattle.paths.specs.Table.{Best, Entry, best, none}
 use Rattle.paths.specs.Laws.Path.{joins_start_lt, joins_end_lt}

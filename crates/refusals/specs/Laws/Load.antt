@@ -136,7 +136,5 @@ module _ (s : List ℕ) (S : SoundSheet s) (g : Given) (n_is : g.n ≡ blocks_in
     pub loaded : Loaded s held
     loaded = record {
       held = record { stands = loaded_stands; fit = stands_fits loaded_stands loaded_long };
-      period_is = R.period_is;
-      registers_are = R.registers_are;
-      delays_are = R.delays_are;
+      unused = record { period_is = R.period_is; registers_are = R.registers_are; delays_are = R.delays_are };
     }

@@ -5,7 +5,8 @@ use Rattle.std.proofs.Common.{ap, ◌∙◌, arith}
 use Rattle.sheet.specs.Lag.{excess, lag_of}
 use Rattle.sheet.specs.Core.{blocks_in, wires_in, registers_in, shape_of, core_of}
 use Rattle.sheet.specs.Sheet.{Formed}
-use Rattle.sheet.specs.Laws.Integer.{up, down, minus, sub_parts, le_parts, parts_le}
+use Rattle.sheet.specs.Integer.{up, down}
+use Rattle.sheet.specs.Laws.Integer.{minus, sub_parts, le_parts, parts_le}
 use Rattle.sheet.specs.Laws.Sheet.{lower_parts, upper_parts}
 use Rattle.sheet.specs.Laws.Formed.{formed_core}
 use Rattle.paths.specs.Table.{Best, Entry, Table, best, none}

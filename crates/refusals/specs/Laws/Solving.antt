@@ -55,7 +55,7 @@ module _ {s : List ℕ} {g : Given} {t : Standing} (R : Resting s g t) where
     goes_on q L =
         let F = R.solving.state.fit in
         let S = stands_with R.solving.stands q registers' delays' table_written in
-        let quick : Within g.delays g.period = rw L.delays_are (blank_quick g.period) in
+        let quick : Within g.delays g.period = rw L.unused.delays_are (blank_quick g.period) in
         let fit =
         stands_fits S
         (record {
@@ -83,8 +83,8 @@ module _ {s : List ℕ} {g : Given} {t : Standing} (R : Resting s g t) where
 -- ---- refusals: the first run finds that no permitted lags exist, a later one that none meets the period
 module _ {s : List ℕ} {g : Given} {t : Standing} {w w' : List ℕ} {r : Result (Unit {0}) ℕ} (l : List ℤ) (count : ℕ) (q : r ≡ Err count) where
   pub first_refuses : (aim : Aim) → Loaded s g → Solved s g t w w' r → First (last_of s aim l w) (lags_outcome (answer 10 0 count) l w')
-  first_refuses (A.At c) L h = refused_none s L.held.stands.sound l w w' (answer 10 0 count) count refl (subst (λ p. LoopWritten (core_of s) p w w' count) L.period_is (solved_refuses h count q)) c
-  first_refuses A.Least L h = best_refused_none s L.held.stands.sound l w w' (answer 10 0 count) count refl (subst (λ p. LoopWritten (core_of s) p w w' count) L.period_is (solved_refuses h count q))
+  first_refuses (A.At c) L h = refused_none s L.held.stands.sound l w w' (answer 10 0 count) count refl (subst (λ p. LoopWritten (core_of s) p w w' count) L.unused.period_is (solved_refuses h count q)) c
+  first_refuses A.Least L h = best_refused_none s L.held.stands.sound l w w' (answer 10 0 count) count refl (subst (λ p. LoopWritten (core_of s) p w w' count) L.unused.period_is (solved_refuses h count q))
 
   pub later_refuses : {g₀ : Given} {t₀ : Standing} → Resting s g₀ t₀ → Solved s g t w w' r → First (lags_last s g.period l w) (lags_outcome (answer 11 0 count) l w')
   later_refuses R h = refused_slow s R.solving.stands.sound l w w' (answer 11 0 count) count g.period refl (solved_refuses h count q) _ (resting_permitted R)

@@ -10,7 +10,8 @@ use Rattle.sheet.specs.Core.{Core, core_of, blocks_in, wires_in, delay_in, lower
 use Rattle.sheet.specs.Rules.{None, Exact, answer}
 use Rattle.sheet.specs.Sheet.{BlockRule, WireRule, frame_rules, entry_rules, Offsets, Framed, FormedSheet, Formed}
 use Rattle.sheet.specs.Reads.{BlockNumbers}
-use Rattle.sheet.specs.Laws.Integer.{up, down, le_parts, parts_le}
+use Rattle.sheet.specs.Integer.{up, down}
+use Rattle.sheet.specs.Laws.Integer.{le_parts, parts_le}
 use Rattle.sheet.specs.Laws.Rules.{NonZero, refusal_exact, place_exact, refusal_nonzero, place_nonzero}
 use Rattle.sheet.specs.Laws.Sheet.{block_numbers}
 

@@ -5,14 +5,7 @@ use Rattle.std.specs.Prelude.{◌≡◌, refl, ℕ, zero, suc, ◌+◌, ◌-◌,
 use Rattle.std.proofs.Common.{ap, arith, lt-ltb, le-ltb, le→leb, leb→le}
 use Rattle.std.proofs.Math.Decide.{dec_lt}
 use Rattle.std.proofs.Math.IntN.{sub_ℕ}
-
-abbrev pub up : ℤ → ℕ
-up (pos k) = k
-up (negsuc k) = 0
-
-abbrev pub down : ℤ → ℕ
-down (pos k) = 0
-down (negsuc k) = suc k
+use Rattle.sheet.specs.Integer.{up, down}
 
 -- a difference of naturals, by its sign
 pub sub_le : (a b : ℕ) → b ≤ a → sub_ℕ a b ≡ pos (a - b)

@@ -7,7 +7,8 @@ use Rattle.std.specs.Int.Signed.{mag}
 use Rattle.std.specs.Int.{w16}
 use Rattle.std.proofs.Math.Facts.{to_z_pos, to_z-neg}
 use Rattle.sheet.specs.Lag.{excess, lag_of}
-use Rattle.sheet.specs.Laws.Integer.{up, down, sub_le, sub_lt, sub_parts, plus, minus, le_parts, parts_le, parts_eq}
+use Rattle.sheet.specs.Integer.{up, down}
+use Rattle.sheet.specs.Laws.Integer.{sub_le, sub_lt, sub_parts, plus, minus, le_parts, parts_le, parts_eq}
 
 -- ---- the excess number is the lag plus 32,768
 pub excess_parts : (z : ℤ) → mag z < 32768 → excess z + down z ≡ up z + 32768

@@ -10,7 +10,8 @@ use Rattle.sheet.specs.Core.{wire_at, blocks_in, wires_in, delay_in, lower_in, u
 use Rattle.sheet.specs.Rules.{First, None, FirstOf, answer, refusal_answer}
 use Rattle.sheet.specs.Sheet.{LagLimits, BlockRule, WireRule, BlockGood, WireGood, frame_rules, block_rules, wire_rules, Offsets, Framed}
 use Rattle.sheet.specs.Reads.{ExcessIs, BlockNumbers, BlockGiven, BlockIs, WireIs, WireGiven, FrameGiven}
-use Rattle.sheet.specs.Laws.Integer.{up, down, le_parts, parts_le, parts_eq, minus}
+use Rattle.sheet.specs.Integer.{up, down}
+use Rattle.sheet.specs.Laws.Integer.{le_parts, parts_le, parts_eq, minus}
 use Rattle.sheet.specs.Laws.Lag.{excess_parts, mag_bits, excess_bits}
 use Rattle.sheet.specs.Laws.Rules.{place_found, search_stops}
 use Rattle.sheet.specs.declared.block.Block.{Block}

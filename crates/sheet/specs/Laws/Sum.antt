@@ -1,11 +1,8 @@
--- The sum of a list, and what a store does to it.
+-- What a store does to the sum of a list.
 -- Assumes nothing.
 use Rattle.std.specs.Prelude.{◌≡◌, List, [], ◌∷◌, ℕ, zero, suc, ◌+◌, ◌<◌, length, get_or, set}
 use Rattle.std.proofs.Common.{arith, not-suc-le-zero, le_of_suc-le-suc}
-
-unfoldable pub sum : List ℕ → ℕ
-sum [] = 0
-sum (x ∷ xs) = x + sum xs
+use Rattle.sheet.specs.Sum.{sum}
 
 pub sum_set : (l : List ℕ) (i y : ℕ) → i < length l → sum (set l i y) + get_or l i 0 ≡ sum l + y
 unfolding sum

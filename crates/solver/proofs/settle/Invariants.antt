@@ -1,5 +1,5 @@
 -- Each round lowers some lag, or is the last.
-use Rattle.sheet.specs.Laws.Sum.{sum}
+use Rattle.sheet.specs.Sum.{sum}
 use Rattle.solver.specs.State.{State}
 use Rattle.solver.proofs.settle.Given as goal
 

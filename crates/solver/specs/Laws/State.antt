@@ -10,7 +10,8 @@ use Rattle.solver.specs.declared.Rule.TheVariants as R
 use Rattle.solver.specs.System.{Says, path, wire, ceiling, Link, rule, Fit, Solution}
 use Rattle.solver.specs.Walk.{Miss}
 use Rattle.solver.specs.State.{State, Swept}
-use Rattle.sheet.specs.Laws.Sum.{sum, sum_set}
+use Rattle.sheet.specs.Sum.{sum}
+use Rattle.sheet.specs.Laws.Sum.{sum_set}
 use Rattle.solver.specs.Laws.Walk.{rooted_set}
 
 -- a rule's ends are blocks, and its k is small enough for code

@@ -6,7 +6,7 @@ use Rattle.solver.specs.declared.Given.{Given}
 use Rattle.solver.specs.declared.Standing.{Standing}
 use Rattle.solver.specs.System.{path, wire, ceiling}
 use Rattle.solver.specs.State.{Swept, WiresHold, PathsHold, AllHold}
-use Rattle.sheet.specs.Laws.Sum.{sum}
+use Rattle.sheet.specs.Sum.{sum}
 
 pub sweep_both : {g : Given} {Done More All : List ℕ → Type 0} {t t' t'' : Standing} {x y : Bool} → Swept g Done t t' x → Swept g More t' t'' y
     → ((l : List ℕ) → Done l → More l → All l) → Swept g All t t'' (x || y)

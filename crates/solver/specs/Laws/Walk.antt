@@ -5,7 +5,8 @@ use Rattle.std.proofs.Common.{ap, sym, subst, ◌∙◌, arith, add-one, below_m
 use Rattle.std.proofs.Math.Decide.{ℕ_discrete}
 use Rattle.std.proofs.lemmas.List.{get_or-replicate, length-replicate}
 use Rattle.solver.specs.Walk.{Depth, Rooted, iter, Past, Met}
-use Rattle.sheet.specs.Laws.Sum.{sum, sum_set}
+use Rattle.sheet.specs.Sum.{sum}
+use Rattle.sheet.specs.Laws.Sum.{sum_set}
 
 pub iter_in : (n : ℕ) (par : List ℕ) → Rooted n par → (v : ℕ) → v < n → (k : ℕ) → iter par k v < n
 iter_in n par R v h zero = h

@@ -7,7 +7,8 @@ use Rattle.std.specs.Float.Ieee.Fits.{and_l, and_r}
 use Rattle.sheet.specs.Core.{Core}
 use Rattle.paths.specs.Path.{Joins, registers_on, delay_on, end_of}
 use Rattle.paths.specs.Table.{Best}
-use Rattle.tables.specs.Laws.Ahead.{Ahead, fewer, level, ahead_registers, ahead_delay, ahead_refl, ahead_trans, ahead_add, ahead_as}
+use Rattle.tables.specs.Order.{Ahead, fewer, level}
+use Rattle.tables.specs.Laws.Ahead.{ahead_registers, ahead_delay, ahead_refl, ahead_trans, ahead_add, ahead_as}
 use Rattle.loops.specs.Test.{joins_test}
 use Rattle.loops.proofs.Tested.{joins_sound}
 use Rattle.sums.specs.Test.{every, ahead_test, registers_to, delay_to, path_tests, still_test, row_tests, table_test}

@@ -7,7 +7,8 @@ use Rattle.std.specs.Float.Ieee.Bits.{is_true}
 use Rattle.std.specs.Int.Signed.{le_z}
 use Rattle.sheet.specs.Core.{Core}
 use Rattle.sheet.specs.Sheet.{Formed}
-use Rattle.sheet.specs.Laws.Integer.{up, down, parts_le}
+use Rattle.sheet.specs.Integer.{up, down}
+use Rattle.sheet.specs.Laws.Integer.{parts_le}
 use Rattle.paths.specs.Table.{Entry, best, Period}
 use Rattle.paths.specs.Laws.Path.{joins_start_lt, joins_end_lt}
 use Rattle.tables.specs.Laws.Entry.{entry_unique}

@@ -6,7 +6,7 @@ use Rattle.std.proofs.Math.Dec.{eqb_refl}
 use Rattle.std.specs.Float.Ieee.Fits.{and_l, and_r}
 use Rattle.std.specs.Float.Ieee.Bits.{is_true}
 use Rattle.sheet.specs.Core.{Core}
-use Rattle.paths.specs.Laws.Pigeons.{NotIn, NoDup}
+use Rattle.paths.specs.Distinct.{NotIn, NoDup}
 use Rattle.loops.specs.Link.{Link, wire, path, upper, lower, ceiling, link_a, sum_k, ValidLoop, NoPath}
 use Rattle.loops.specs.Test.{Parsed, links, links_of, valid_test}
 use Rattle.loops.proofs.Tested.{links_told, test_sound}

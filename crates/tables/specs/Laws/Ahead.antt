@@ -1,12 +1,9 @@
--- The order of the table: fewer registers, or as many and at least the delay.
+-- Laws of the table's order.
 -- Assumes nothing.
 use Rattle.std.specs.Prelude.{◌≡◌, ◌⊎◌, ℕ, ◌+◌, ◌≤◌, ◌<◌}
 use Rattle.std.proofs.Common.{inl, inr, arith}
 use Rattle.std.proofs.Math.Decide.{dec_le, dec_lt}
-
-pub data Ahead (W D W' D' : ℕ) : Type 0 where
-  fewer : W < W' → Ahead W D W' D'
-  level : W ≡ W' → D' ≤ D → Ahead W D W' D'
+use Rattle.tables.specs.Order.{Ahead, fewer, level}
 
 pub ahead_registers : {W D W' D' : ℕ} → Ahead W D W' D' → W ≤ W'
 ahead_registers (fewer h) = omega arith

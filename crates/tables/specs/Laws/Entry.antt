@@ -13,8 +13,10 @@ use Rattle.tables.specs.Back.{Completed}
 use Rattle.tables.specs.Row.{base_w, offer_w, offer_d, Row, Relaxed}
 use Rattle.paths.specs.Laws.Path.{passes_all, joins_left, joins_right, joins_start_lt, joins_ends, joins_snoc, between_passes, registers_append, registers_snoc, Last, nil, snoc, last}
 use Rattle.paths.proofs.Delays.{delay_snoc}
-use Rattle.paths.specs.Laws.Pigeons.{NotIn, NoDup, pigeons}
-use Rattle.tables.specs.Laws.Ahead.{Ahead, ahead_or}
+use Rattle.paths.specs.Distinct.{NotIn, NoDup}
+use Rattle.paths.specs.Laws.Pigeons.{pigeons}
+use Rattle.tables.specs.Order.{Ahead}
+use Rattle.tables.specs.Laws.Ahead.{ahead_or}
 use Rattle.paths.specs.Laws.Simple.{passed, passed_below, length_passed, Leads, leads, Loop, simple_or_loop, cut_joins, cut_fewer, cut}
 use Rattle.paths.proofs.Way.{Limits}
 use Rattle.tables.specs.Laws.Relax.{Part, part_start, part_next, part_end}

@@ -8,7 +8,7 @@ use Rattle.sheet.specs.Laws.Filled.{length_filled, filled_at}
 use Rattle.paths.specs.Lists.{held}
 use Rattle.paths.specs.Table.{LoopAt, Way}
 use Rattle.tables.specs.Row.{Row, Round, Rounded, RowRight}
-use Rattle.tables.specs.Laws.Ahead.{Ahead, level}
+use Rattle.tables.specs.Order.{Ahead, level}
 use Rattle.tables.specs.Laws.Rows.{Covers, covers_start, covers_next, covers_still, covered_entry}
 use Rattle.paths.proofs.Way.{way_start}
 use Rattle.paths.proofs.Way.{Limits}

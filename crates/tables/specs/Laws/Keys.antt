@@ -14,7 +14,7 @@ use Rattle.sheet.specs.Laws.Filled.{length_filled, filled_at}
 use Rattle.paths.specs.Lists.{held, list_shape, Wires, Delays}
 use Rattle.tables.specs.Row.{base_of, base_w, base_d, offer_w, offer_d, Row, RowRight}
 use Rattle.tables.specs.Keys.{key_w, key_d, decoded, row_w, row_d, Whole, cost_at, Costs, Tried, KeysRight}
-use Rattle.tables.specs.Laws.Ahead.{Ahead, fewer, level}
+use Rattle.tables.specs.Order.{Ahead, fewer, level}
 use Rattle.tables.specs.Laws.Rows.{base_start, base_other, base_few, base_small}
 
 -- ---- the decoded list

@@ -8,7 +8,8 @@ use Rattle.sheet.specs.Core.{Shape}
 use Rattle.paths.specs.Lists.{held}
 use Rattle.paths.specs.Table.{Way}
 use Rattle.tables.specs.Row.{base_w, offer_w, offer_d, Row, Relaxed, Round, Rounded}
-use Rattle.tables.specs.Laws.Ahead.{Ahead, ahead_registers, ahead_refl, ahead_trans, ahead_add}
+use Rattle.tables.specs.Order.{Ahead}
+use Rattle.tables.specs.Laws.Ahead.{ahead_registers, ahead_refl, ahead_trans, ahead_add}
 use Rattle.tables.specs.Laws.Rows.{base_way, base_few, base_small, base_ahead}
 use Rattle.paths.proofs.Way.{way_more}
 

@@ -11,9 +11,10 @@ use Rattle.paths.specs.Table.{LoopAt, Way, Entry, best, none}
 use Rattle.tables.specs.Row.{base_w, base_d, Row, Round}
 use Rattle.paths.specs.Laws.Path.{joins_end_lt, joins_ends, registers_snoc, Between, Last, nil, snoc, last}
 use Rattle.paths.proofs.Delays.{delay_snoc}
-use Rattle.tables.specs.Laws.Ahead.{Ahead, fewer, ahead_registers, ahead_delay, ahead_refl, ahead_trans, ahead_add, ahead_as}
+use Rattle.tables.specs.Order.{Ahead, fewer}
+use Rattle.tables.specs.Laws.Ahead.{ahead_registers, ahead_delay, ahead_refl, ahead_trans, ahead_add, ahead_as}
 use Rattle.paths.specs.Laws.Simple.{Loop, passed, simple_or_loop, simple_short, cut, cut_joins, cut_fewer, shorten}
-use Rattle.paths.specs.Laws.Pigeons.{NoDup}
+use Rattle.paths.specs.Distinct.{NoDup}
 
 -- ---- where a wire starts, by cases
 module _ (u f x y : ℕ) where

@@ -4,7 +4,7 @@ use Rattle.std.specs.Prelude.{◌≡◌, refl, [], ℕ, ◌+◌, ◌≤◌, ◌<
 use Rattle.std.proofs.Common.{arith}
 use Rattle.std.proofs.Math.Decide.{dec_le}
 use Rattle.sheet.specs.Core.{Core}
-use Rattle.sheet.specs.Laws.Integer.{up}
+use Rattle.sheet.specs.Integer.{up}
 use Rattle.paths.specs.Table.{Entry, best}
 use Rattle.paths.specs.Laws.Path.{joins_start_lt, joins_end_lt}
 use Rattle.tables.specs.Laws.Entry.{entry_unique}

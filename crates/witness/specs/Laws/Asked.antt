@@ -3,7 +3,8 @@
 use Rattle.std.specs.Prelude.{◌≡◌, refl, List, ℕ, ◌+◌, ◌*◌, ◌<◌, get_or, ℤ, pos, ◌-ℤ◌}
 use Rattle.std.proofs.Common.{◌∙◌, arith}
 use Rattle.sheet.specs.Core.{core_of, shape_of, blocks_in, wires_in, registers_in, delay_in, lower_in, upper_in}
-use Rattle.sheet.specs.Laws.Integer.{up, down, minus}
+use Rattle.sheet.specs.Integer.{up, down}
+use Rattle.sheet.specs.Laws.Integer.{minus}
 use Rattle.sheet.specs.Laws.Sheet.{upper_parts}
 use Rattle.paths.specs.Table.{Best, Entry, best, none}
 use Rattle.solver.specs.declared.Given.{Given}

@@ -6,10 +6,11 @@ use Rattle.std.proofs.lemmas.List.{length-map}
 use Rattle.std.proofs.lemmas.List.Edits.{sets}
 use Rattle.sheet.specs.Core.{Core}
 use Rattle.sheet.specs.Sheet.{Formed}
-use Rattle.sheet.specs.Laws.Integer.{up, down}
+use Rattle.sheet.specs.Integer.{up, down}
 use Rattle.paths.specs.Path.{end_of}
 use Rattle.paths.specs.Laws.Path.{joins_start_lt}
-use Rattle.paths.specs.Laws.Pigeons.{NotIn, NoDup, AllBelow, pigeons}
+use Rattle.paths.specs.Distinct.{NotIn, NoDup}
+use Rattle.paths.specs.Laws.Pigeons.{AllBelow, pigeons}
 use Rattle.loops.specs.Link.{Link, wire, path, upper, lower, ceiling, words_of, all_words, link_a, link_b, Good, Chain, NoPath}
 use Rattle.loops.specs.Laws.Chain.{chain_append, sum_snoc}
 use Rattle.loops.specs.Laws.Words.{words_append}

@@ -10,7 +10,7 @@ use Rattle.sheet.specs.Sheet.{Formed}
 use Rattle.sheet.specs.Laws.Formed.{formed_core}
 use Rattle.sheet.specs.Laws.Integer.{negated}
 use Rattle.sheet.specs.Laws.Sheet.{lower_parts}
-use Rattle.paths.specs.Laws.Pigeons.{NotIn}
+use Rattle.paths.specs.Distinct.{NotIn}
 use Rattle.loops.specs.Link.{Link, lower, all_words, link_a, sum_k, ValidLoop}
 use Rattle.loops.specs.Laws.Chain.{parts_negative}
 use Rattle.solver.specs.declared.Given.{Given}
