@@ -7,11 +7,10 @@ use Rattle.std.proofs.Math.Logic.{∥∥₁_elim}
 use Rattle.std.proofs.Math.Nat.{ℕ_set}
 use Rattle.std.proofs.Math.Decide.{ℕ_discrete, dec_lt}
 use Rattle.std.proofs.lemmas.List.{length-replicate, get_or-replicate, set-get_or}
-use Rattle.sheet.specs.Core.{Shape}
-use Rattle.sheet.specs.Sheet.{FormedSheet}
+use Rattle.sheet.specs.Core.{Shape, registers_in, shape_of}
 use Rattle.sheet.specs.Rules.{None}
 use Rattle.paths.specs.Path.{Joins, registers_on, delay_on}
-use Rattle.paths.specs.Lists.{Delays}
+use Rattle.paths.specs.Lists.{held, list_shape, Wires, Delays}
 use Rattle.paths.specs.Table.{LoopAt, Way, Period}
 use Rattle.paths.specs.Questions.{loop_rules}
 use Rattle.paths.specs.Rise.{Stands, Listed, Lifted, Highest, Ending, Heights, offered, Trying, Swept, Covered, Settled, Risen}
@@ -19,10 +18,7 @@ use Rattle.paths.specs.Laws.Path.{joins_start_lt, joins_end_lt, joins_ends, regi
 use Rattle.paths.proofs.Delays.{delay_snoc}
 use Rattle.paths.specs.Laws.Simple.{Loop, passed, simple_or_loop, simple_short, cut_registers, loop_at}
 use Rattle.paths.specs.Distinct.{NoDup}
-use Rattle.paths.specs.Laws.Same.{same_sym, loop_same}
-use Rattle.paths.specs.Laws.Loaded.{wires_same}
-use Rattle.paths.specs.Wired.{wired, weights, WiringOf}
-use Rattle.paths.specs.declared.wiring.Wiring.{Wiring}
+use Rattle.paths.specs.Laws.Same.{SameWires, same_sym, loop_same}
 use Rattle.paths.proofs.Way.{Limits}
 use Rattle.paths.proofs.Way.{way_start, way_more}
 
@@ -324,9 +320,10 @@ highest_next l k r r' p e = go (dec_lt r (get_or l k 0))
 pub ones_held : (n : ℕ) → n ≤ 64 → Delays n (replicate 64 1)
 ones_held n h = record { long = length-replicate {A = ℕ} 64 1; small = λ b l. omega (arith, get_or-replicate {A = ℕ} 64 b 1 0 (omega arith)) }
 
-pub settled_none : (s : List ℕ) (f : FormedSheet s) (w : Wiring) (h : WiringOf s w) (limit : ℕ) (heights : List ℕ) (r : Bool) → Risen (wired w (replicate 64 1)) (weights w) limit heights r → r ≡ true → None (loop_rules s)
-settled_none s f w h limit heights r p q = (
-  λ k. settled_free (wired w (replicate 64 1)) (weights w) heights (p.settled q)
-      (λ v l. omega (arith, get_or-replicate {A = ℕ} 64 v 1 0 (omega (arith, w.wires.few_blocks)))) k.0 (loop_same (same_sym (wires_same s f w h (replicate 64 1))) k.0 k.2),
+pub settled_none : (s : List ℕ) (n m limit : ℕ) (from to registers heights : List ℕ) (r : Bool) → Wires n m from to registers → SameWires (list_shape n m (replicate 64 1) from to) (shape_of s) (held registers) (registers_in s)
+    → Risen (list_shape n m (replicate 64 1) from to) (held registers) limit heights r → r ≡ true → None (loop_rules s)
+settled_none s n m limit from to registers heights r h e p q = (
+  λ k. settled_free (list_shape n m (replicate 64 1) from to) (held registers) heights (p.settled q)
+      (λ v l. omega (arith, get_or-replicate {A = ℕ} 64 v 1 0 (omega (arith, h.few_blocks)))) k.0 (loop_same (same_sym e) k.0 k.2),
   tt,
 )

@@ -1,9 +1,10 @@
 // What the solver is given, loaded from a sound sheet; and the lags that it found, written out.
-ghost use Rattle.std.specs.Prelude.{◌≡◌, ℕ, ◌<◌, ◌≤◌, length, get_or};
+ghost use Rattle.std.specs.Prelude.{◌≡◌, ℕ, ◌<◌, ◌≤◌, length, get_or, replicate};
 ghost use Rattle.sheet.specs.Core.{from_in, to_in, registers_in, ceiling_of};
 ghost use Rattle.sheet.specs.Filled.{filled};
 ghost use Rattle.sheet.specs.Lag.{lag_of};
-ghost use Rattle.refusals.specs.Load.{wire_bound, ceiling_bound, Unused, Loaded};
+ghost use Rattle.solver.specs.System.{tabled};
+ghost use Rattle.refusals.specs.Load.{wire_bound, ceiling_bound, Unused, Held, Loaded};
 
 use paths::sound::Sound;
 use sheet::lag::lag_of;
@@ -41,7 +42,8 @@ fn load_wires(
 #[inline(never)]
 pub fn load(sheet: Sound<'_>, given: &mut Given)
     requires { (given.old.n ≡ sheet.n) × (given.old.m ≡ sheet.m) }
-    ensures { Unused given.old → Loaded sheet.entry.bytes.now given.new }
+    ensures held { Held sheet.entry.bytes.now (tabled given.new 4294967295 (replicate 4096 0) (replicate 4096 0)) }
+    ensures loaded { Unused given.old → Loaded sheet.entry.bytes.now given.new }
 {
     let formed = sheet.formed();
     let Limits { lower, upper } = formed.limits();

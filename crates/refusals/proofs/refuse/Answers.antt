@@ -5,7 +5,7 @@ use Rattle.refusals.specs.Laws.Solving.{first_refuses, solved_rests, hopeless_re
 use Rattle.refusals.proofs.refuse.Goals as goal
 
 pub returns-in-Err : goal.returns-in-Err
-returns-in-Err c = first_refuses c.args.lags.now _ c.in-Err.is c.args.aim (c.load.ensures (record { period_is = refl; registers_are = refl; delays_are = refl })) (rw c.formed.ensures.0 at c.solve.ensures)
+returns-in-Err c = first_refuses c.args.lags.now _ c.in-Err.is c.args.aim (c.load.ensures.loaded (record { period_is = refl; registers_are = refl; delays_are = refl })) (rw c.formed.ensures.0 at c.solve.ensures)
 
 pub unreachable-requires : goal.unreachable-requires
 unreachable-requires c = hopeless_rest (subst (Hopeless _) c.in-Least.is c.requires.2) (solved_rests (rw c.formed.ensures.0 at c.solve.ensures) c.in_default.is).0

@@ -1,7 +1,7 @@
 -- Lists that were loaded from a sound sheet are what the solver is given.
 -- Assumes nothing.
 use Rattle.std.specs.Prelude.{◌≡◌, refl, List, ℕ, ◌+◌, ◌*◌, ◌≤◌, ◌<◌, length, get_or, replicate}
-use Rattle.std.proofs.Common.{ap, ◌∙◌, arith}
+use Rattle.std.proofs.Common.{ap, ◌∙◌, sym, subst, arith}
 use Rattle.std.proofs.lemmas.List.{length-replicate}
 use Rattle.sheet.specs.Lag.{excess}
 use Rattle.sheet.specs.Core.{blocks_in, wires_in, lower_in, upper_in, from_in, to_in, registers_in, ceiling_of, shape_of, core_of}
@@ -12,10 +12,10 @@ use Rattle.paths.specs.Table.{Entry, best, none}
 use Rattle.paths.specs.Questions.{SoundSheet}
 use Rattle.paths.specs.Laws.Questions.{sound_core}
 use Rattle.solver.specs.declared.Given.{Given}
-use Rattle.solver.specs.System.{Fit, Within}
-use Rattle.solver.specs.Laws.Begun.{blank_quick}
+use Rattle.solver.specs.System.{Fit, tabled}
+use Rattle.solver.specs.Laws.Begun.{blank, blank_quick}
 use Rattle.witness.specs.Stands.{Stands}
-use Rattle.refusals.specs.Load.{wire_bound, ceiling_bound, Unused, Loaded}
+use Rattle.refusals.specs.Load.{wire_bound, ceiling_bound, Unused, Held, Loaded}
 use Rattle.tables.specs.Laws.Small.{best_few}
 use Rattle.refusals.specs.Laws.Solved.{entry_slow}
 
@@ -84,11 +84,11 @@ long_is f n k l₀ l e h = ap length e ∙ length_filled f n l₀ ∙ h
 still : length {A = ℕ} (replicate 64 32768) ≡ 64
 still = length-replicate {A = ℕ} 64 32768
 
-module _ (s : List ℕ) (S : SoundSheet s) (g : Given) (n_is : g.n ≡ blocks_in s) (m_is : g.m ≡ wires_in s) (R : Unused g) (L : Wires g) where
-  few_blocks : g.n ≤ 64
+module _ (s : List ℕ) (S : SoundSheet s) (g : Given) (n_is : g.n ≡ blocks_in s) (m_is : g.m ≡ wires_in s) (L : Wires g) where
+  pub few_blocks : g.n ≤ 64
   few_blocks = omega (arith, S.formed.framed.few_blocks)
 
-  few_wires : g.m ≤ 256
+  pub few_wires : g.m ≤ 256
   few_wires = omega (arith, S.formed.framed.few_wires)
 
   few : (j : ℕ) → j < wires_in s → registers_in s j ≤ 2000
@@ -101,14 +101,15 @@ module _ (s : List ℕ) (S : SoundSheet s) (g : Given) (n_is : g.n ≡ blocks_in
       (to_is : to ≡ filled (to_in s) g.m g.to)
       (wires_are : wires ≡ filled (λ j. wire_bound (registers_in s j)) g.m g.wires)
       (ceilings_are : ceilings ≡ filled (λ j. ceiling_bound (ceiling_of 0) (registers_in s j)) g.m g.ceilings) where
+    -- whatever period and table stand there, without path rules
     abbrev held : Given
     held = record g { lower = lower; upper = upper; from = from; to = to; wires = wires; ceilings = ceilings }
 
-    quick : Within g.delays g.period
-    quick = rw R.delays_are (blank_quick g.period)
+    abbrev bare : Given
+    bare = tabled held 4294967295 blank blank
 
-    loaded_stands : Stands s held
-    loaded_stands = record {
+    bare_stands : Stands s bare
+    bare_stands = record {
       sound = S;
       n_is = n_is;
       m_is = m_is;
@@ -118,23 +119,30 @@ module _ (s : List ℕ) (S : SoundSheet s) (g : Given) (n_is : g.n ≡ blocks_in
       to_is = λ j h. entry_is _ g.m _ to to_is (omega (arith, few_wires, L.to_long)) j (omega arith);
       wires_is = λ j h. entry_is _ g.m _ wires wires_are (omega (arith, few_wires, L.wires_long)) j (omega arith);
       ceilings_is = λ j h. omega (arith, entry_is _ g.m _ ceilings ceilings_are (omega (arith, few_wires, L.ceilings_long)) j (omega arith), few j h);
-      table = λ x. absurd (omega (arith, x.slow, quick.all (x.a * g.n + x.b)));
+      table = λ x. absurd (omega (arith, x.slow, (blank_quick 4294967295).all (x.a * g.n + x.b)));
     }
 
-    loaded_long : Long held
-    loaded_long = record {
+    bare_long : Long bare
+    bare_long = record {
       lower_long = long_is _ g.n 64 _ lower lower_is still;
       upper_long = long_is _ g.n 64 _ upper upper_is still;
       from_long = long_is _ g.m 256 _ from from_is L.from_long;
       to_long = long_is _ g.m 256 _ to to_is L.to_long;
       wires_long = long_is _ g.m 256 _ wires wires_are L.wires_long;
       ceilings_long = long_is _ g.m 256 _ ceilings ceilings_are L.ceilings_long;
-      registers_long = ap length R.registers_are ∙ length-replicate {A = ℕ} 4096 0;
-      delays_long = ap length R.delays_are ∙ length-replicate {A = ℕ} 4096 0;
+      registers_long = length-replicate {A = ℕ} 4096 0;
+      delays_long = length-replicate {A = ℕ} 4096 0;
     }
 
-    pub loaded : Loaded s held
-    loaded = record {
-      held = record { stands = loaded_stands; fit = stands_fits loaded_stands loaded_long };
+    pub loaded_held : Held s bare
+    loaded_held = record { stands = bare_stands; fit = stands_fits bare_stands bare_long }
+
+    -- and as they stand, where there were none before
+    pub loaded : Unused g → Loaded s held
+    loaded R = record {
+      held =
+          subst (λ p. Held s (tabled held p g.registers g.delays)) (sym R.period_is)
+          (subst (λ r. Held s (tabled held 4294967295 r g.delays)) (sym R.registers_are)
+          (subst (λ d. Held s (tabled held 4294967295 blank d)) (sym R.delays_are) loaded_held));
       unused = record { period_is = R.period_is; registers_are = R.registers_are; delays_are = R.delays_are };
     }

@@ -1,7 +1,7 @@
 -- Each turn fills one more entry of the three lists, which hold the wires of a formed sheet in the end.
 use Rattle.std.proofs.Common.{rules, sym, arith, length-set, ◌≡◌}
 use Rattle.sheet.specs.Laws.Filled.{filled_none, filled_turn}
-use Rattle.paths.specs.Laws.Loaded.{wires_held}
+use Rattle.paths.specs.Laws.Loaded.{over_zeros, wires_held}
 use Rattle.paths.proofs.wiring.Wiring.of.Goals as goal
 
 pub loop-j-init : goal.loop-j-init
@@ -21,4 +21,4 @@ pub invariant_of-result : goal.invariant_of-result
 invariant_of-result c =
     let e : c.loop-j.j ≡ c.args.sheet.m = omega arith in
     let i = rw e at c.loop-j.invariant in
-    record { wires = wires_held c.args.sheet.bytes.now c.args.sheet.formed _ _ c.args.sheet.n_is c.args.sheet.m_is _ _ _ i.3 i.4 i.5 }
+    record { wires = wires_held c.args.sheet.bytes.now c.args.sheet.formed (over_zeros c.args.sheet.n_is c.args.sheet.m_is i.3 i.4 i.5) }
