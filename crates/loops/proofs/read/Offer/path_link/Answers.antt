@@ -18,7 +18,7 @@ returns-then-path-self c =
     let along = drop (c.args.at + 3) c.args.self.words.now in
     let e : c.args.at + 3 + c.args.count - (c.args.at + 3) ≡ c.args.count = omega arith in
     let f = follow_part s along c.args.start c.args.count (omega (arith, c.requires.within, length-drop (c.args.at + 3) c.args.self.words.now)) c.follow.result (rw e at c.follow.ensures) in
-    path_quick s _ c.args.self.words.now _ _ _ c.requires _ _ _ (subst (FollowGiven s along c.args.start c.args.count) c.in_ok-path.was f) c.if-path-self.true
+    path_quick s _ c.args.self.words.now _ _ _ c.requires _ _ _ (subst (FollowGiven s along c.args.start c.args.count) c.in_ok-path.was f) (omega (arith, c.if-path-self.true))
 
 pub returns : goal.returns
 returns c =
@@ -26,4 +26,4 @@ returns c =
     let along = drop (c.args.at + 3) c.args.self.words.now in
     let e : c.args.at + 3 + c.args.count - (c.args.at + 3) ≡ c.args.count = omega arith in
     let f = follow_part s along c.args.start c.args.count (omega (arith, c.requires.within, length-drop (c.args.at + 3) c.args.self.words.now)) c.follow.result (rw e at c.follow.ensures) in
-    path_good s _ c.args.self.words.now _ _ _ c.requires _ _ _ (subst (FollowGiven s along c.args.start c.args.count) c.in_ok-path.was f) c.if-path-self.false
+    path_good s _ c.args.self.words.now _ _ _ c.requires _ _ _ (subst (FollowGiven s along c.args.start c.args.count) c.in_ok-path.was f) (omega (arith, c.if-path-self.false))
