@@ -63,19 +63,18 @@ fn round(costed: &Costed<'_>, u: usize, start: usize, done: usize, keys: &mut [u
 
 // The keys of block u's row: at most n rounds from the bare start block. The block and its start are made here, for one row, and
 // go down as numbers: in a struct with the costs they would be taken out again at each use.
-fn settle(costed: &Costed<'_>, u: usize) -> [usize; 64]
+fn settle(costed: &Costed<'_>, u: usize, keys: &mut [usize; 64])
     requires { u < costed.now.wiring.now.n }
-    ensures { KeysRight (shape_of costed.now) (weights_of costed.now) u result }
+    ensures { KeysRight (shape_of costed.now) (weights_of costed.now) u keys.new }
 {
     let start = 2147483648 - costed.delays[u] as usize;
-    let mut keys = [FAR; 64];
+    *keys = [FAR; 64];
     keys[u] = start;
     for done in 0..costed.wiring.n {
-        if !round(costed, u, start, done, &mut keys) {
-            return keys;
+        if !round(costed, u, start, done, keys) {
+            return;
         }
     }
-    keys
 }
 
 // The registers and the delay that a key holds.
@@ -109,6 +108,7 @@ pub fn fill_row(costed: &Costed<'_>, u: usize, ws: &mut [u32], ds: &mut [u32])
     requires { (u < costed.now.wiring.now.n) × (length ws.old ≡ costed.now.wiring.now.n) × (length ds.old ≡ costed.now.wiring.now.n) }
     ensures { RowRight (shape_of costed.now) (weights_of costed.now) u ws.new ds.new }
 {
-    let keys = settle(costed, u);
+    let mut keys = [0; 64];
+    settle(costed, u, &mut keys);
     unpack(costed.wiring.n, &keys, ws, ds);
 }
