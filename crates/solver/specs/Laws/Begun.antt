@@ -14,7 +14,7 @@ use Rattle.solver.specs.Walk.{Depth, Rooted}
 use Rattle.solver.specs.State.{State, AllHold}
 
 -- no links yet: every block is held by its upper limit, which leads to the host
-abbrev none : List ℕ
+abbrev pub none : List ℕ
 none = replicate 64 0
 
 -- no path table yet

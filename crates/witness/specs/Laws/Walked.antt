@@ -86,7 +86,7 @@ module _ {s : List ℕ} {g : Given} {t : Standing} {x : Broken} (h : Halted s g 
   pub b_in : x.b < g.n
   b_in = omega (arith, blocks, asked_b (core_of s) formed g.period x.rule x.a x.b rule_bound.z rule_bound.asked)
 
-  rooted : Rooted g.n t.next
+  pub rooted : Rooted g.n t.next
   rooted = h.state.rooted
 
   pub held_bound : (v : ℕ) → (l : v < g.n) → Bound s g (get_or t.rules v R.Limit) v (get_or t.next v 0) (h.state.held v l).0
