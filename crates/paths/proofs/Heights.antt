@@ -139,6 +139,7 @@ module _ (s : Shape) (w : ℕ → ℕ) where
     pub trying_start : (k : ℕ) (list old : List ℕ) → Heights s w k old → Trying s w k 0 list old old false
     trying_start k list old p = record {
       heights = heights_more k (k + 0) old (omega arith) p;
+      few = λ e. absurd (true≢false (sym e));
       keeps = λ v. omega arith;
       tried = λ x h. absurd (omega arith);
       still = λ _. refl;
@@ -169,6 +170,7 @@ module _ (s : Shape) (w : ℕ → ℕ) where
       trying_rose : get_or now (s.to j) 0 < offered s w now j → new ≡ set now (s.to j) (offered s w now j) → Trying s w k (i + 1) list old new true
       trying_rose l e = rw e (record {
         heights = heights_more (k + i + 1) (k + (i + 1)) _ (omega arith) risen;
+        few = λ _. omega arith;
         keeps = up;
         tried = below_more (λ (x : ℕ). offered s w old (get_or list x 0) ≤ get_or (set now (s.to j) (offered s w now j)) (s.to (get_or list x 0)) 0) i
             (λ x h. omega (arith, p.tried x h, up' (s.to (get_or list x 0))))
@@ -185,6 +187,7 @@ module _ (s : Shape) (w : ℕ → ℕ) where
       trying_stayed : offered s w now j ≤ get_or now (s.to j) 0 → new ≡ now → Trying s w k (i + 1) list old new rose
       trying_stayed l e = rw e (record {
         heights = heights_more (k + i) (k + (i + 1)) now (omega arith) p.heights;
+        few = λ e. omega (arith, p.few e);
         keeps = p.keeps;
         tried = below_more (λ (x : ℕ). offered s w old (get_or list x 0) ≤ get_or now (s.to (get_or list x 0)) 0) i p.tried
             (rw here (omega (arith, p.keeps (s.from j))));
