@@ -48,17 +48,20 @@ fn relax(costed: &Costed<'_>, u: usize, start: usize, j: usize, keys: &mut [usiz
     better
 }
 
-// One round over all wires: whether one improved a block. `done` counts the rounds before it and bounds the row's numbers.
+// One round over all wires: whether one improved a block. `done` counts the rounds before it and bounds the row's numbers. The
+// improvements are counted: a flag, which is carried from wire to wire, takes longer.
 fn round(costed: &Costed<'_>, u: usize, start: usize, done: usize, keys: &mut [usize; 64]) -> bool
     requires start { (u < costed.now.wiring.now.n) × (done < 64) × (start + get_or costed.now.delays.now u 0 ≡ 2147483648) }
     requires whole { Whole costed.now.wiring.now.n keys.old × Row (shape_of costed.now) (weights_of costed.now) u (256 * done) (row_w costed.now.wiring.now.n keys.old) (row_d costed.now.wiring.now.n keys.old) }
     ensures { TriedAll (shape_of costed.now) (weights_of costed.now) u (256 * done + 256) keys.old keys.new result }
 {
-    let mut improved = false;
+    let mut improved = 0usize;
     for j in 0..costed.wiring.m {
-        improved |= relax(costed, u, start, j, keys);
+        if relax(costed, u, start, j, keys) {
+            improved += 1;
+        }
     }
-    improved
+    improved > 0
 }
 
 // The keys of block u's row: at most n rounds from the bare start block. The block and its start are made here, for one row, and

@@ -115,7 +115,6 @@ module _ (s : Shape) (w : ℕ → ℕ) (u : ℕ) (g : Limits s w) (u_lt : u < s.
 -- ---- a round that has tried the wires below j; `improved` says whether there was an improvement
 pub record Part (s : Shape) (w : ℕ → ℕ) (u k j : ℕ) (ws₀ ds₀ ws ds : List ℕ) (improved : Bool) : Type 0 where
   pub row : Row s w u (k + j) ws ds
-  pub few : improved ≡ true → 0 < j
   pub round : Round s w u j (held ws₀) (held ds₀) (held ws) (held ds)
   pub still : improved ≡ false → (ws ≡ ws₀) × (ds ≡ ds₀)
 
@@ -123,7 +122,6 @@ module _ (s : Shape) (w : ℕ → ℕ) (u k : ℕ) (ws₀ ds₀ : List ℕ) (g :
   pub part_start : Row s w u k ws₀ ds₀ → Part s w u k 0 ws₀ ds₀ ws₀ ds₀ false
   part_start r = record {
     row = row_more s w u g u_lt k (k + 0) ws₀ ds₀ (omega arith) r;
-    few = λ e. absurd (true≢false (sym e));
     round = round_none s w u g u_lt (held ws₀) (held ds₀);
     still = λ _. (refl, refl);
   }
@@ -132,7 +130,6 @@ module _ (s : Shape) (w : ℕ → ℕ) (u k : ℕ) (ws₀ ds₀ : List ℕ) (g :
     pub part_next : (b : Bool) → Relaxed s w u j ws ds ws' ds' b → Part s w u k (j + 1) ws₀ ds₀ ws' ds' (improved || b)
     part_next b r = record {
       row = row_more s w u g u_lt (k + j + 1) (k + (j + 1)) ws' ds' (omega arith) (relaxed_row s w u g u_lt (k + j) j ws ds ws' ds' few j_lt p.row b r);
-      few = λ _. omega arith;
       round = round_next s w u g u_lt (k + j) j ws ds ws' ds' few j_lt p.row (held ws₀) (held ds₀) p.round b r;
       still = go improved b p.still r;
     }
