@@ -33,15 +33,18 @@ limits_from Upper = 22
 abbrev pub registers_from : ℕ → ℕ
 registers_from n = 20 + 8 * n
 
+-- both limits of n blocks, less their lags
+abbrev pub limits_put : List ℕ → (ℕ → ℤ) → ℕ → List ℕ → List ℕ
+limits_put s r n l = puts (limits_from Upper) (limit_bits s r Upper) n (puts (limits_from Lower) (limit_bits s r Lower) n l)
+
 abbrev pub copied : List ℕ → List ℕ → List ℕ
 copied s l = filled (λ i. get_or s i 0) (length s) l
 
 abbrev pub written : List ℕ → (ℕ → ℤ) → List ℕ → List ℕ
 written s r l =
     puts (registers_from (blocks_in s)) (moved_registers s r) (wires_in s)
-    (puts (limits_from Upper) (limit_bits s r Upper) (blocks_in s)
-    (puts (limits_from Lower) (limit_bits s r Lower) (blocks_in s)
-    (copied s l)))
+    (limits_put s r (blocks_in s)
+    (copied s l))
 
 -- what a wire's new registers are
 pub record RegistersMoved (s : List ℕ) (r : ℕ → ℤ) (j x : ℕ) : Type 0 where

@@ -1,7 +1,7 @@
 // The moved sheet is written: the sheet is copied, then each field that changes is put anew.
 ghost use Rattle.std.specs.Prelude.{◌≡◌, ◌<◌, ◌≤◌, length};
 ghost use Rattle.moves.specs.Lags.{lags_in};
-ghost use Rattle.moves.specs.Write.{RegistersMoved, copied, limits_from, limit_bits, puts, registers_from, moved_registers, written};
+ghost use Rattle.moves.specs.Write.{RegistersMoved, copied, limits_from, limits_put, puts, registers_from, moved_registers, written};
 
 use crate::lags::{Move, lag_at};
 use sheet::block::Limit;
@@ -25,19 +25,20 @@ fn limits_from(which: Limit) -> usize
 }
 
 impl<'a> Move<'a> {
-    // One limit of each block, less its lag.
-    fn put_limits(self, which: Limit, moved: &mut [u8])
+    // Both limits of each block, less its lag: a block's entry is read once.
+    fn put_limits(self, moved: &mut [u8])
         requires { length self.asked.sheet.bytes.now ≤ length moved.old }
-        ensures { moved.new ≡ puts (limits_from which) (limit_bits self.entry.asked.sheet.bytes.now (lags_in self.entry.asked.lags.now) which) self.entry.asked.sheet.n moved.old }
+        ensures { moved.new ≡ limits_put self.entry.asked.sheet.bytes.now (lags_in self.entry.asked.lags.now) self.entry.asked.sheet.n moved.old }
     {
-        let base = limits_from(which);
+        let low = limits_from(Limit::Lower);
+        let high = limits_from(Limit::Upper);
         for b in 0..self.asked.sheet.n {
-            let limit = self.asked.sheet.block(b).limit(which);
-            put_lag(
-                moved,
-                base + 8 * b,
-                limit + 32768 - lag_at(self.asked.lags, b),
-            );
+            let block = self.asked.sheet.block(b);
+            let lag = lag_at(self.asked.lags, b);
+            let lower = block.limit(Limit::Lower);
+            let upper = block.limit(Limit::Upper);
+            put_lag(moved, low + 8 * b, lower + 32768 - lag);
+            put_lag(moved, high + 8 * b, upper + 32768 - lag);
         }
     }
 
@@ -66,8 +67,7 @@ impl<'a> Move<'a> {
         ensures { moved.new ≡ written self.entry.asked.sheet.bytes.now (lags_in self.entry.asked.lags.now) moved.old }
     {
         copy_sheet(self.asked.sheet.bytes, moved);
-        self.put_limits(Limit::Lower, moved);
-        self.put_limits(Limit::Upper, moved);
+        self.put_limits(moved);
         self.put_registers(moved);
     }
 }

@@ -1,10 +1,10 @@
 -- The loops that write the moved sheet: their turns, and the bounds on what they write.
 -- Assumes nothing.
-use Rattle.std.specs.Prelude.{◌≡◌, List, ◌++◌, ℤ, length, get_or, drop}
+use Rattle.std.specs.Prelude.{◌≡◌, List, ◌++◌, ℤ, ◌/◌, length, get_or, set, drop}
 use Rattle.std.proofs.Math.Path.{refl}
 use Rattle.std.proofs.Common.{ap, sym, ◌∙◌, arith, ext_get_or, length-append, length-drop, get_or-append-add, get_or-drop}
 use Rattle.std.proofs.Math.Decide.{dec_lt}
-use Rattle.std.proofs.lemmas.List.{get_or_append_left}
+use Rattle.std.proofs.lemmas.List.{get_or_append_left, set_comm}
 use Prim.Native.Nat.{ℕ, zero, suc, ◌+◌, ◌*◌, ◌-◌, ◌%◌, ◌<◌, ◌≤◌}
 use Rattle.std.proofs.Math.Numerals.{add-one}
 use Rattle.sheet.specs.Lag.{excess}
@@ -20,7 +20,7 @@ use Rattle.sheet.specs.Laws.Bytes.{length_put16}
 use Rattle.sheet.specs.Laws.Sheet.{block_numbers, lower_fits, upper_fits}
 use Rattle.moves.specs.Lags.{Permitted}
 use Rattle.sheet.specs.declared.block.Limit.TheVariants.{Lower, Upper}
-use Rattle.moves.specs.Write.{puts, limit_bits, moved_registers, limits_from, registers_from, copied, written, limit_in, RegistersMoved}
+use Rattle.moves.specs.Write.{puts, limit_bits, moved_registers, limits_from, limits_put, registers_from, copied, written, limit_in, RegistersMoved}
 
 module _ (base : ℕ) (val : ℕ → ℕ) where
   pub puts_none : (l : List ℕ) → puts base val 0 l ≡ l
@@ -38,6 +38,31 @@ module _ (base : ℕ) (val : ℕ → ℕ) where
   unfolding puts
   length_puts zero l = refl
   length_puts (suc n) l = length_put16 (puts base val n l) (base + 8 * n) (val n) ∙ length_puts n l
+
+-- ---- fields that lie apart are put in either order
+put16_swap : (l : List ℕ) (a b x y : ℕ) → a + 1 < b → put16 (put16 l a x) b y ≡ put16 (put16 l b y) a x
+put16_swap l a b x y h =
+    ap (λ (m : List ℕ). set m (b + 1) (y / 256))
+      (set_comm (set l a (x % 256)) (a + 1) b (x / 256) (y % 256) (λ e. omega arith) ∙ ap (λ (m : List ℕ). set m (a + 1) (x / 256)) (set_comm l a b (x % 256) (y % 256) (λ e. omega arith)))
+    ∙ set_comm (set (set l b (y % 256)) a (x % 256)) (a + 1) (b + 1) (x / 256) (y / 256) (λ e. omega arith)
+    ∙ ap (λ (m : List ℕ). set m (a + 1) (x / 256)) (set_comm (set l b (y % 256)) a (b + 1) (x % 256) (y / 256) (λ e. omega arith))
+
+puts_swap : (base : ℕ) (val : ℕ → ℕ) (n : ℕ) (l : List ℕ) (at x : ℕ) → base + 8 * n < at + 7 → puts base val n (put16 l at x) ≡ put16 (puts base val n l) at x
+unfolding puts
+puts_swap base val zero l at x h = refl
+puts_swap base val (suc n) l at x h =
+    ap (λ (m : List ℕ). put16 m (base + 8 * n) (val n)) (puts_swap base val n l at x (omega arith))
+    ∙ sym (put16_swap (puts base val n l) (base + 8 * n) at (val n) x (omega arith))
+
+-- one more block's limits, the lower first
+pub limits_turn : (s : List ℕ) (r : ℕ → ℤ) (b : ℕ) (l₀ l l₁ l₂ : List ℕ) (low high x y : ℕ) → l ≡ limits_put s r b l₀ → low ≡ 20 + 8 * b → high ≡ 22 + 8 * b
+    → x ≡ limit_bits s r Lower b → y ≡ limit_bits s r Upper b → l₁ ≡ put16 l low x → l₂ ≡ put16 l₁ high y → l₂ ≡ limits_put s r (b + 1) l₀
+limits_turn s r b l₀ l l₁ l₂ low high x y p q₁ q₂ e₁ e₂ f₁ f₂ =
+    let lows = puts 20 (limit_bits s r Lower) b l₀ in
+    let more : put16 lows low x ≡ puts 20 (limit_bits s r Lower) (b + 1) l₀ = puts_turn 20 (limit_bits s r Lower) b l₀ lows _ low x refl q₁ e₁ refl in
+    let still = puts_swap 22 (limit_bits s r Upper) b lows low x (omega arith) in
+    puts_turn 22 (limit_bits s r Upper) b (puts 20 (limit_bits s r Lower) (b + 1) l₀) l₁ l₂ high y
+    (f₁ ∙ ap (λ (m : List ℕ). put16 m low x) p ∙ sym still ∙ ap (puts 22 (limit_bits s r Upper) b) more) q₂ e₂ f₂
 
 pub bits_is : (e a E A : ℕ) → e ≡ E → a ≡ A → (e + 32768 - a + 32768) % 65536 ≡ (E + 32768 - A + 32768) % 65536
 bits_is e a E A p q = rw (p, q)
