@@ -77,7 +77,8 @@ impl<'a> Offer<'a> {
         }
     }
 
-    // Kind 2: the path that starts at block `start` along `count` words. Its delay must exceed the period.
+    // Kind 2: the path that starts at block `start` along `count` words. Its delay must exceed the period. Inlined, as `link_at` is.
+    #[inline(always)]
     fn path_link(self, at: usize, start: usize, count: usize) -> Option<Read>
         requires { PathHead self.words.now at start count }
         ensures { LinkGiven self.entry.sheet.bytes.now self.entry.period self.entry.words.now at result }
@@ -97,7 +98,9 @@ impl<'a> Offer<'a> {
         })
     }
 
-    // The link whose words begin at `at`.
+    // The link whose words begin at `at`. Inlined: a call hands the offer and the link over in memory, which takes longer than to read
+    // most links.
+    #[inline(always)]
     pub fn link_at(self, at: usize) -> Option<Read>
         requires { at ≤ length self.words.now }
         ensures { LinkGiven self.entry.sheet.bytes.now self.entry.period self.entry.words.now at result }
