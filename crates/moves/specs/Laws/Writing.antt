@@ -43,7 +43,7 @@ module _ (base : ℕ) (val : ℕ → ℕ) where
 put16_swap : (l : List ℕ) (a b x y : ℕ) → a + 1 < b → put16 (put16 l a x) b y ≡ put16 (put16 l b y) a x
 put16_swap l a b x y h =
     ap (λ (m : List ℕ). set m (b + 1) (y / 256))
-      (set_comm (set l a (x % 256)) (a + 1) b (x / 256) (y % 256) (λ e. omega arith) ∙ ap (λ (m : List ℕ). set m (a + 1) (x / 256)) (set_comm l a b (x % 256) (y % 256) (λ e. omega arith)))
+    (set_comm (set l a (x % 256)) (a + 1) b (x / 256) (y % 256) (λ e. omega arith) ∙ ap (λ (m : List ℕ). set m (a + 1) (x / 256)) (set_comm l a b (x % 256) (y % 256) (λ e. omega arith)))
     ∙ set_comm (set (set l b (y % 256)) a (x % 256)) (a + 1) (b + 1) (x / 256) (y / 256) (λ e. omega arith)
     ∙ ap (λ (m : List ℕ). set m (a + 1) (x / 256)) (set_comm (set l b (y % 256)) a (b + 1) (x % 256) (y / 256) (λ e. omega arith))
 
