@@ -43,6 +43,7 @@ fn load_wires(
 pub fn load(sheet: Sound<'_>, given: &mut Given)
     requires { (given.old.n ≡ sheet.n) × (given.old.m ≡ sheet.m) }
     ensures held { Held sheet.entry.bytes.now (tabled given.new 4294967295 (replicate 4096 0) (replicate 4096 0)) }
+    ensures kept { (given.new.n ≡ given.old.n) × (given.new.m ≡ given.old.m) × (given.new.period ≡ given.old.period) × (given.new.registers ≡ given.old.registers) × (given.new.delays ≡ given.old.delays) }
     ensures loaded { Unused given.old → Loaded sheet.entry.bytes.now given.new }
 {
     let formed = sheet.formed();

@@ -49,7 +49,7 @@ fn relax(costed: &Costed<'_>, u: usize, start: usize, j: usize, keys: &mut [usiz
 }
 
 // One round over all wires: whether one improved a block. `done` counts the rounds before it and bounds the row's numbers. The
-// improvements are counted: a flag, which is carried from wire to wire, takes longer.
+// improvements are counted: to carry along only whether there was one takes longer.
 fn round(costed: &Costed<'_>, u: usize, start: usize, done: usize, keys: &mut [usize; 64]) -> bool
     requires start { (u < costed.now.wiring.now.n) × (done < 64) × (start + get_or costed.now.delays.now u 0 ≡ 2147483648) }
     requires whole { Whole costed.now.wiring.now.n keys.old × Row (shape_of costed.now) (weights_of costed.now) u (256 * done) (row_w costed.now.wiring.now.n keys.old) (row_d costed.now.wiring.now.n keys.old) }

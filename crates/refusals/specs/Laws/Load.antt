@@ -81,7 +81,7 @@ pub long_is : (f : ℕ → ℕ) (n k : ℕ) (l₀ l : List ℕ) → l ≡ filled
 long_is f n k l₀ l e h = ap length e ∙ length_filled f n l₀ ∙ h
 
 -- ---- the lists, before (g) and after they are loaded
-still : length {A = ℕ} (replicate 64 32768) ≡ 64
+pub still : length {A = ℕ} (replicate 64 32768) ≡ 64
 still = length-replicate {A = ℕ} 64 32768
 
 module _ (s : List ℕ) (S : SoundSheet s) (g : Given) (n_is : g.n ≡ blocks_in s) (m_is : g.m ≡ wires_in s) (L : Wires g) where
@@ -94,9 +94,9 @@ module _ (s : List ℕ) (S : SoundSheet s) (g : Given) (n_is : g.n ≡ blocks_in
   few : (j : ℕ) → j < wires_in s → registers_in s j ≤ 2000
   few j h = (S.formed.wire j h).few
 
-  module _ {lower upper from to wires ceilings : List ℕ}
-      (lower_is : lower ≡ filled (λ b. excess (lower_in s b)) g.n (replicate 64 32768))
-      (upper_is : upper ≡ filled (λ b. excess (upper_in s b)) g.n (replicate 64 32768))
+  module _ (lower₀ upper₀ : List ℕ) {lower upper from to wires ceilings : List ℕ} (lower_long : length lower₀ ≡ 64) (upper_long : length upper₀ ≡ 64)
+      (lower_is : lower ≡ filled (λ b. excess (lower_in s b)) g.n lower₀)
+      (upper_is : upper ≡ filled (λ b. excess (upper_in s b)) g.n upper₀)
       (from_is : from ≡ filled (from_in s) g.m g.from)
       (to_is : to ≡ filled (to_in s) g.m g.to)
       (wires_are : wires ≡ filled (λ j. wire_bound (registers_in s j)) g.m g.wires)
@@ -113,8 +113,8 @@ module _ (s : List ℕ) (S : SoundSheet s) (g : Given) (n_is : g.n ≡ blocks_in
       sound = S;
       n_is = n_is;
       m_is = m_is;
-      lower_is = λ b h. entry_is _ g.n _ lower lower_is (omega (arith, few_blocks, still)) b (omega arith);
-      upper_is = λ b h. entry_is _ g.n _ upper upper_is (omega (arith, few_blocks, still)) b (omega arith);
+      lower_is = λ b h. entry_is _ g.n _ lower lower_is (omega (arith, few_blocks, lower_long)) b (omega arith);
+      upper_is = λ b h. entry_is _ g.n _ upper upper_is (omega (arith, few_blocks, upper_long)) b (omega arith);
       from_is = λ j h. entry_is _ g.m _ from from_is (omega (arith, few_wires, L.from_long)) j (omega arith);
       to_is = λ j h. entry_is _ g.m _ to to_is (omega (arith, few_wires, L.to_long)) j (omega arith);
       wires_is = λ j h. entry_is _ g.m _ wires wires_are (omega (arith, few_wires, L.wires_long)) j (omega arith);
@@ -124,8 +124,8 @@ module _ (s : List ℕ) (S : SoundSheet s) (g : Given) (n_is : g.n ≡ blocks_in
 
     bare_long : Long bare
     bare_long = record {
-      lower_long = long_is _ g.n 64 _ lower lower_is still;
-      upper_long = long_is _ g.n 64 _ upper upper_is still;
+      lower_long = long_is _ g.n 64 _ lower lower_is lower_long;
+      upper_long = long_is _ g.n 64 _ upper upper_is upper_long;
       from_long = long_is _ g.m 256 _ from from_is L.from_long;
       to_long = long_is _ g.m 256 _ to to_is L.to_long;
       wires_long = long_is _ g.m 256 _ wires wires_are L.wires_long;
